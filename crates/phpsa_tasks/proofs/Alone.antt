@@ -14,7 +14,7 @@ use Rattle.program_files.proofs.Among.{contains_map}
 use Rattle.program_loader.specs.Told.{HoldsProgram}
 use Rattle.document_types.specs.OneFile.{file_alone}
 
-module _ (only bytes name : List ℕ) (p : PlainProgram) (h : HoldsProgram (file_alone only bytes) name p) where
+module _ (only bytes name : List ℕ) (stubs : Option (List ℕ)) (p : PlainProgram) (h : HoldsProgram (file_alone only bytes) name stubs p) where
   -- a name that is read is that of the file
   one_name : (path : List ℕ) → Reads h.held (normal name) path → path ≡ only
   one_name path reads =

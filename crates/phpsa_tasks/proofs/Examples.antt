@@ -22,16 +22,16 @@ use Rattle.phpsa_tasks.specs.Counted.{ReadsFor}
 use Rattle.phpsa_tasks.specs.Answered.{IsVerdict}
 
 -- a script is decided by the strict type, the smallest one, or that of a file, which may have any name
-checks : task_of (check (codes "t.php") (codes "strict") None 10000 false false) ≡ script_check (script_file (codes "t.php") None) strict_type Valid 10000 Plain
+checks : task_of (check (codes "t.php") (codes "strict") None None 10000 false false) ≡ script_check (script_file (codes "t.php") None None) strict_type Valid 10000 Plain
 checks = refl
 
 -- in its normal form, with the root that is given, or that of its own name
-checks_by_a_file : task_of (check (codes "t.php") (codes "./d.dtd") None 9 false true) ≡ script_check (script_file (codes "t.php") None) (file_type (codes "d.dtd") (codes ".")) Valid 9 Json
+checks_by_a_file : task_of (check (codes "t.php") (codes "./d.dtd") None None 9 false true) ≡ script_check (script_file (codes "t.php") None None) (file_type (codes "d.dtd") (codes ".")) Valid 9 Json
 unfolding normal normal_parts root_for is_inside
 checks_by_a_file = refl
 
-checks_in_a_root : task_of (check (codes "t.php") (codes "d.dtd") (Some (codes "a/..//b")) 9 false true)
-    ≡ script_check (script_file (codes "t.php") (Some (codes "a/..//b"))) (file_type (codes "d.dtd") (codes "b")) Valid 9 Json
+checks_in_a_root : task_of (check (codes "t.php") (codes "d.dtd") (Some (codes "a/..//b")) None 9 false true)
+    ≡ script_check (script_file (codes "t.php") (Some (codes "a/..//b")) None) (file_type (codes "d.dtd") (codes "b")) Valid 9 Json
 unfolding normal normal_parts root_for
 checks_in_a_root = refl
 
@@ -42,7 +42,7 @@ judges_by_no_name : task_of (page (codes "p.xhtml") [] None) ≡ page_check (cod
 unfolding normal normal_parts root_for is_inside
 judges_by_no_name = refl
 
-checks_nesting : task_of (check (codes "t.php") (codes "mini") None 10000 true false) ≡ script_check (script_file (codes "t.php") None) mini_type Nested 10000 Plain
+checks_nesting : task_of (check (codes "t.php") (codes "mini") None None 10000 true false) ≡ script_check (script_file (codes "t.php") None None) mini_type Nested 10000 Plain
 checks_nesting = refl
 
 checks_made : task_of (make 200 true) ≡ made_check 200
@@ -51,25 +51,25 @@ checks_made = refl
 makes : task_of (make 1001 false) ≡ script_making 1001
 makes = refl
 
-runs : task_of (run (codes "t.php") (Some (codes "a")) None 100) ≡ script_run (script_file (codes "t.php") (Some (codes "a"))) None 100
+runs : task_of (run (codes "t.php") (Some (codes "a")) (Some (codes "env.php")) None 100) ≡ script_run (script_file (codes "t.php") (Some (codes "a")) (Some (codes "env.php"))) None 100
 runs = refl
 
-writes_a_grammar : task_of (grammar (codes "t.php") None) ≡ grammar_making (script_file (codes "t.php") None)
+writes_a_grammar : task_of (grammar (codes "t.php") None None) ≡ grammar_making (script_file (codes "t.php") None None)
 writes_a_grammar = refl
 
-checks_a_list : task_of (site (codes "list") (codes "mini") (Some (codes "a")) 10000 true) ≡ list_check (script_file (codes "list") (Some (codes "a"))) mini_type Nested 10000
+checks_a_list : task_of (site (codes "list") (codes "mini") (Some (codes "a")) (Some (codes "env.php")) 10000 true) ≡ list_check (script_file (codes "list") (Some (codes "a")) (Some (codes "env.php"))) mini_type Nested 10000
 checks_a_list = refl
 
 -- a script has the root that is given, or else the folder of the call where it lies in it, or else its own folder
-given : root_of (script_file (codes "site/t.php") (Some (codes "site/"))) ≡ codes "site"
+given : root_of (script_file (codes "site/t.php") (Some (codes "site/")) None) ≡ codes "site"
 unfolding root_for normal normal_parts
 given = refl
 
-of_the_call : root_of (script_file (codes "site/t.php") None) ≡ codes "."
+of_the_call : root_of (script_file (codes "site/t.php") None None) ≡ codes "."
 unfolding root_for is_inside normal_parts
 of_the_call = refl
 
-of_its_own : root_of (script_file (codes "../site/t.php") None) ≡ codes "../site"
+of_its_own : root_of (script_file (codes "../site/t.php") None None) ≡ codes "../site"
 unfolding root_for is_inside folder_of normal_parts
 of_its_own = refl
 

@@ -18,7 +18,7 @@ use Rattle.program_files.specs.Source.{SourceCall, source_call}
 use Rattle.program_files.specs.declared.refusal.LoadRefusal.{LoadRefusal}
 use Rattle.program_files.specs.declared.refusal.LoadRefusal.TheVariants as load
 use Rattle.program_loader.specs.Causes.{IsLoadCause}
-use Rattle.program_loader.specs.Told.{IsLoaded, HoldsProgram, AreShort}
+use Rattle.program_loader.specs.Told.{IsLoaded, HoldsProgram, AreShort, StubsAreShort}
 use Rattle.dtd_model.specs.Table.{Table}
 use Rattle.request_reading.specs.Outcome.{Outcome, not_json, not_request, not_admitted, stands_for, outcome}
 use Rattle.request_reading.specs.Causes.{IsCause}
@@ -54,21 +54,23 @@ use Rattle.phpsa_tasks.proofs.Alone.{alone_stays_inside}
 use Rattle.phpsa_tasks.proofs.ListLemmas.{LoadedStays, list_verdict, not_list}
 use Rattle.command_words.specs.declared.values.TheConstants.{PAIR_LIMIT}
 
+abbrev pub OneProgram : Type 0
+OneProgram = (content : Content) (name : List ℕ) (stubs : Option (List ℕ)) (program other : PlainProgram) → HoldsProgram content name stubs program → IsLoaded content name stubs other
+    → program ≡ other
+
 -- a source that tells of each name that a program reads holds one, which is not refused but for want of memory
 pub record ProgramLaws : Type 0 where
-  pub one_program : (content : Content) (name : List ℕ) (program other : PlainProgram) → HoldsProgram content name program → IsLoaded content name other → program ≡ other
+  pub one_program : OneProgram
   pub stay : LoadedStays
-  pub not_refused : (call : SourceCall) (root name : List ℕ) (program : PlainProgram) (refusal : LoadRefusal) → (h : HoldsProgram call.content name program) → AreShort h.held name
-      → AllStayInside root h.held (normal name) → (Rises call.faults call.faults' → ⊥) → IsLoadCause call root name refusal → refusal ≡ load.Memory
+  pub not_refused : (call : SourceCall) (root name : List ℕ) (stubs : Option (List ℕ)) (program : PlainProgram) (refusal : LoadRefusal)
+      → (h : HoldsProgram call.content name stubs program) → AreShort h.held name → StubsAreShort call.content stubs
+      → AllStayInside root h.held (normal name) → (Rises call.faults call.faults' → ⊥) → IsLoadCause call root name stubs refusal → refusal ≡ load.Memory
 
 -- a program that is held and stays in its root is refused for want of memory alone
 pub unloaded_memory : ProgramLaws → (files : SourceCall) (file : ScriptFile) (program : PlainProgram) (cause : LoadRefusal) → HoldsProgramInside files.content file program
-    → (Rises files.faults files.faults' → ⊥) → IsLoadCause files (root_of file) file.name cause → load_status cause ≡ Memory
+    → (Rises files.faults files.faults' → ⊥) → IsLoadCause files (root_of file) file.name file.stubs cause → load_status cause ≡ Memory
 unloaded_memory laws files file program cause h calm why =
-    ap load_status (laws.not_refused files (root_of file) file.name program cause h.held.holds h.held.short h.inside calm why)
-
-abbrev pub OneProgram : Type 0
-OneProgram = (content : Content) (name : List ℕ) (program other : PlainProgram) → HoldsProgram content name program → IsLoaded content name other → program ≡ other
+    ap load_status (laws.not_refused files (root_of file) file.name file.stubs program cause h.held.holds h.held.short h.held.short_stubs h.inside calm why)
 
 pub one_content : (content : Content) (file bytes other : List ℕ) → content file ≡ known (Some bytes) → Tells (content file) (Some other) → bytes ≡ other
 one_content content file bytes other held told =
@@ -94,10 +96,10 @@ judgment_verdict content file d x true is = is
 judgment_verdict content file d x false is = is
 
 -- what is so of the program and the table that are found is so of those that are held
-pub own_program : OneProgram → (content : Content) (file : List ℕ) (d : NamedType) (x y : ProgramBy) → HoldsShortProgram content file x.program → HoldsTable content d x.table
-    → IsLoaded content file y.program → HasTable content d y.table → (P : PlainProgram → Table → Type 0) → P y.program y.table → P x.program x.table
+pub own_program : OneProgram → (content : Content) (file : ScriptFile) (d : NamedType) (x y : ProgramBy) → HoldsShortProgram content file x.program → HoldsTable content d x.table
+    → IsLoaded content file.name file.stubs y.program → HasTable content d y.table → (P : PlainProgram → Table → Type 0) → P y.program y.table → P x.program x.table
 own_program one content file d x y h t found has P is =
-    subst (λ (p : PlainProgram). P p x.table) (sym (one content file x.program y.program h.holds found))
+    subst (λ (p : PlainProgram). P p x.table) (sym (one content file.name file.stubs x.program y.program h.holds found))
     (subst (λ (s : Table). P y.program s) (sym (same_table content d x.table y.table t.told t.has has)) is)
 
 -- and so of the page
@@ -127,11 +129,11 @@ own_request content (Some name) x y held (bytes, told, is) =
     let same : held.bytes ≡ bytes = one_content content name held.bytes bytes held.file.told told in
     ap asked_of (sym held.is ∙ ap outcome same ∙ is)
 
-pub own_run : OneProgram → (content : Content) (file : List ℕ) (request : Option (List ℕ)) (x y : ProgramFor) → HoldsShortProgram content file x.program
-    → HoldsRequest content request x.request → IsLoaded content file y.program → FindsRequest content request y.request
+pub own_run : OneProgram → (content : Content) (file : ScriptFile) (request : Option (List ℕ)) (x y : ProgramFor) → HoldsShortProgram content file x.program
+    → HoldsRequest content request x.request → IsLoaded content file.name file.stubs y.program → FindsRequest content request y.request
     → (P : PlainProgram → PlainRequest → Type 0) → P y.program y.request → P x.program x.request
 own_run one content file request x y h r found finds P is =
-    subst (λ (p : PlainProgram). P p x.request) (sym (one content file x.program y.program h.holds found))
+    subst (λ (p : PlainProgram). P p x.request) (sym (one content file.name file.stubs x.program y.program h.holds found))
     (subst (λ (q : PlainRequest). P y.program q) (sym (own_request content request x.request y.request r finds)) is)
 
 -- a limit that is passed stops the task
@@ -146,7 +148,7 @@ pub held_reply : OneProgram → LoadedStays → (files : SourceCall) (task : Tas
 held_reply one stay files (script_check file d goal limit form) x y status text (h, t) (found, has) (answer, is, status_is, text_is) =
     stopped files.content (script_check file d goal limit form) x status
     (script_verdict goal x.table x.program limit answer status status_is
-    (own_program one files.content file.name d x y h t found.loaded has (λ (p : PlainProgram) (s : Table). IsShownAnswer goal s p limit answer) is.0))
+    (own_program one files.content file d x y h t found.loaded has (λ (p : PlainProgram) (s : Table). IsShownAnswer goal s p limit answer) is.0))
 held_reply one stay files (page_check file d) x y status text (h, t) (found, has) (valid, is, status_is, text_is) =
     inl (subst (IsVerdict files.content (page_check file d) x) (sym status_is)
     (judgment_verdict files.content file d x valid (own_page files.content file d x y h t found has (λ (p : List ℕ) (s : Table). IsJudged s p valid) is)))
@@ -154,19 +156,19 @@ held_reply one stay files (script_making n) x y status text h f (size, status_is
 held_reply one stay files (made_check n) x y status text (size, h, t) (size', found, has) (answer, is, status_is, text_is) =
     stopped files.content (made_check n) x status
     (script_verdict Goal.Valid x.table x.program PAIR_LIMIT answer status status_is
-    (own_program one (only_made n) made_name strict_type x y h t found.loaded has (λ (p : PlainProgram) (s : Table). IsShownAnswer Goal.Valid s p PAIR_LIMIT answer) is.0))
+    (own_program one (only_made n) made_file strict_type x y h t found.loaded has (λ (p : PlainProgram) (s : Table). IsShownAnswer Goal.Valid s p PAIR_LIMIT answer) is.0))
 held_reply one stay files (script_run file request steps) x y status text (h, r) (found, finds, admitted) (ended, status_is, text_is) =
-    inl (status_is ∙ ap end_status (sym (own_run one files.content file.name request x y h r found.loaded finds (λ (p : PlainProgram) (q : PlainRequest). (meaning p q steps).end ≡ Ended) ended)))
+    inl (status_is ∙ ap end_status (sym (own_run one files.content file request x y h r found.loaded finds (λ (p : PlainProgram) (q : PlainRequest). (meaning p q steps).end ≡ Ended) ended)))
 held_reply one stay files (grammar_making file) x y status text h found (inl (written, status_is)) = inl (subst (IsVerdict files.content (grammar_making file) x) (sym status_is) tt)
 held_reply one stay files (grammar_making file) x y status text h found (inr (count, many, status_is, text_is)) =
-    let own : HasManyItems x count = subst (λ (p : PlainProgram). HasManyItems p count) (sym (one files.content file.name x y h.holds found.loaded)) many in
+    let own : HasManyItems x count = subst (λ (p : PlainProgram). HasManyItems p count) (sym (one files.content file.name file.stubs x y h.holds found.loaded)) many in
     inr (inl (subst (PassesGrammarLimit x) (sym status_is) (count, own)))
 held_reply one stay files (list_check file d goal limit) x y status text (h, t) (found, has, good) (lines, are, status_is, text_is) =
     stopped files.content (list_check file d goal limit) x status
-    (subst (λ (s : Exit). IsListVerdict files.content goal x.table x.list s ⊎ StopsAtScript files.content file.root goal x.table limit x.list s) (sym status_is)
+    (subst (λ (s : Exit). IsListVerdict files.content file.stubs goal x.table x.list s ⊎ StopsAtScript files.content file goal x.table limit x.list s) (sym status_is)
     (own_list files.content file.name d x y h t found has
-    (λ (l : List ℕ) (s : Table). IsListVerdict files.content goal s l (site_status lines) ⊎ StopsAtScript files.content file.root goal s limit l (site_status lines))
-    (list_verdict stay files file.root goal limit y lines good are)))
+    (λ (l : List ℕ) (s : Table). IsListVerdict files.content file.stubs goal s l (site_status lines) ⊎ StopsAtScript files.content file goal s limit l (site_status lines))
+    (list_verdict stay files file goal limit y lines good are)))
 held_reply one stay files help_telling x y status text h f (status_is, text_is) = inl status_is
 held_reply one stay files version_telling x y status text h f (status_is, text_is) = inl status_is
 held_reply one stay files usage x y status text h f r = absurd r
@@ -179,7 +181,7 @@ held_halt one content (page_check file d) x y status printed text h f r = absurd
 held_halt one content (script_making n) x y status printed text h f r = absurd r
 held_halt one content (made_check n) x y status printed text h f r = absurd r
 held_halt one content (script_run file request steps) x y status printed text (h, r) (found, finds, admitted) (early, status_is, printed_is, text_is) =
-    inl (own_run one content file.name request x y h r found.loaded finds (λ (p : PlainProgram) (q : PlainRequest). status ≡ end_status (meaning p q steps).end) status_is)
+    inl (own_run one content file request x y h r found.loaded finds (λ (p : PlainProgram) (q : PlainRequest). status ≡ end_status (meaning p q steps).end) status_is)
 held_halt one content (grammar_making file) x y status printed text h f r = absurd r
 held_halt one content (list_check file d goal limit) x y status printed text h f r = absurd r
 held_halt one content help_telling x y status printed text h f r = absurd r
@@ -246,17 +248,17 @@ held_script laws files file d goal limit x status text calm h t w (not_loaded ca
 held_script laws files file d goal limit x status text calm h t w (lacks_definition program misses found behind why) =
     inr (definition_memory (from_misses misses files) d x.table status text t w calm why)
 held_script laws files file d goal limit x status text calm h t w (has_long_text program found long status_is text_is) =
-    let own : HasLongText x.program = subst HasLongText (sym (laws.one_program files.content file.name x.program program h.held.holds found.loaded)) long in
+    let own : HasLongText x.program = subst HasLongText (sym (laws.one_program files.content file.name file.stubs x.program program h.held.holds found.loaded)) long in
     inl (subst (PassesScriptLimit goal x.table x.program limit) (sym status_is) own)
 
 -- a list that is held and is none is refused for that
-refused_list : (files : SourceCall) (root : Option (List ℕ)) (goal : Goal) (limit : ℕ) (table : Table) (list : List ℕ) (refusal : ListRefusal) (status : Exit) → status ≡ list_status refusal → IsNoList list refusal
-    → IsListVerdict files.content goal table list status ⊎ (StopsAtScript files.content root goal table limit list status ⊎ (status ≡ Memory))
-refused_list files root goal limit table list refusal status status_is why = by (not_list list refusal why)
+refused_list : (files : SourceCall) (file : ScriptFile) (goal : Goal) (limit : ℕ) (table : Table) (list : List ℕ) (refusal : ListRefusal) (status : Exit) → status ≡ list_status refusal → IsNoList list refusal
+    → IsListVerdict files.content file.stubs goal table list status ⊎ (StopsAtScript files.content file goal table limit list status ⊎ (status ≡ Memory))
+refused_list files file goal limit table list refusal status status_is why = by (not_list list refusal why)
   where
     by : ((list_status refusal ≡ Input) × (IsList list → ⊥)) ⊎ (list_status refusal ≡ Memory)
-        → IsListVerdict files.content goal table list status ⊎ (StopsAtScript files.content root goal table limit list status ⊎ (status ≡ Memory))
-    by (inl (is, none)) = inl (subst (IsListVerdict files.content goal table list) (sym (status_is ∙ is)) none)
+        → IsListVerdict files.content file.stubs goal table list status ⊎ (StopsAtScript files.content file goal table limit list status ⊎ (status ≡ Memory))
+    by (inl (is, none)) = inl (subst (IsListVerdict files.content file.stubs goal table list) (sym (status_is ∙ is)) none)
     by (inr is) = inr (inr (status_is ∙ is))
 
 -- a refusal says the verdict of what the source holds, that a limit was passed, or want of memory
@@ -270,7 +272,7 @@ held_refusal laws files (script_making n) x status text calm h w (size, status_i
 held_refusal laws files (made_check n) x status text calm (size, h, t) w (no_size none status_is text_is) = absurd (none size)
 held_refusal laws files (made_check n) x status text calm (size, h, t) w (made_refused size' misses reads why) =
     let inside : HoldsProgramInside (only_made n) made_file x.program =
-    record { held = h; inside = alone_stays_inside made_name (made n) made_name x.program h.holds (root_of made_file) } in
+    record { held = h; inside = alone_stays_inside made_name (made n) made_name None x.program h.holds (root_of made_file) } in
     inr (held_script laws (source_call (only_made n) 0 0 0 misses 0 reads) made_file strict_type Goal.Valid PAIR_LIMIT x status text never inside t w why)
 held_refusal laws files (script_run file request steps) x status text calm (h, r) w (inl (cause, why, status_is, text_is)) =
     inr (inr (status_is ∙ unloaded_memory laws files file x.program cause w calm why))
@@ -279,12 +281,12 @@ held_refusal laws files (script_run file request steps) x status text calm (h, r
 held_refusal laws files (grammar_making file) x status text calm h w (inl (cause, why, status_is, text_is)) =
     inr (inr (status_is ∙ unloaded_memory laws files file x cause w calm why))
 held_refusal laws files (grammar_making file) x status text calm h w (inr (program, found, long, status_is, text_is)) =
-    let own : HasLongText x = subst HasLongText (sym (laws.one_program files.content file.name x program h.holds found.loaded)) long in
+    let own : HasLongText x = subst HasLongText (sym (laws.one_program files.content file.name file.stubs x program h.holds found.loaded)) long in
     inr (inl (subst (PassesGrammarLimit x) (sym status_is) own))
 held_refusal laws files (list_check file d goal limit) x status text calm (h, t) (w, hold) (list_unread fault why status_is text_is) =
     inr (inr (status_is ∙ file_memory files file.name x.list fault h calm why))
 held_refusal laws files (list_check file d goal limit) x status text calm (h, t) (w, hold) (no_list list refusal told why status_is text_is) =
-    refused_list files file.root goal limit x.table x.list refusal status status_is
+    refused_list files file goal limit x.table x.list refusal status status_is
     (subst (λ (l : List ℕ). IsNoList l refusal) (sym (one_content files.content file.name x.list list h.told told)) why)
 held_refusal laws files (list_check file d goal limit) x status text calm (h, t) (w, hold) (list_lacks_definition list cause told is why status_is text_is) =
     inr (inr (definition_memory files d x.table status text t w calm (not_defined cause why status_is text_is)))

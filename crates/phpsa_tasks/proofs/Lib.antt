@@ -1,6 +1,7 @@
 pub mod Faults
 pub mod EmptyRequest
 pub mod Defining
+pub mod Loading
 pub mod OneTask
 pub mod ListLemmas
 pub mod Alone

@@ -25,7 +25,7 @@ use Rattle.site_check.proofs.Answering.{answered_leads, calm_throughout}
 use Rattle.phpsa_texts.specs.declared.exit.Exit.{Exit}
 use Rattle.phpsa_texts.specs.declared.exit.Exit.TheVariants as exit
 use Rattle.phpsa_texts.specs.Statuses.{site_status, list_status}
-use Rattle.phpsa_tasks.specs.Tasks.{ScriptFile, script_file, list_check}
+use Rattle.phpsa_tasks.specs.Tasks.{ScriptFile, listed, list_check}
 use Rattle.phpsa_tasks.specs.Subjects.{ListBy}
 use Rattle.phpsa_tasks.specs.ScriptAnswers.{IsAnswer}
 use Rattle.phpsa_tasks.specs.Causes.{RefusesScript, large_models, not_loaded, lacks_definition, has_long_text}
@@ -35,7 +35,7 @@ use Rattle.phpsa_tasks.specs.Answered.{IsScriptVerdict, PassesScriptLimit, IsLis
 
 -- what is loaded stays so
 abbrev pub LoadedStays : Type 0
-LoadedStays = (before now : Content) (name : List ℕ) (program : PlainProgram) → Stays before now → IsLoaded before name program → IsLoaded now name program
+LoadedStays = (before now : Content) (name : List ℕ) (stubs : Option (List ℕ)) (program : PlainProgram) → Stays before now → IsLoaded before name stubs program → IsLoaded now name stubs program
 
 -- a refusal by the table of a definition is one of `check`
 pub as_check : (files : SourceCall) (file : ScriptFile) (d : NamedType) (table : Table) (status : Exit) (text : List ℕ) → HasTable files.content d table
@@ -118,16 +118,16 @@ not_refused (ShownAnswer.Tags count height) e = let same : false ≡ true = e in
 not_refused (ShownAnswer.Items count) e = let same : false ≡ true = e in cc
 
 -- a program whose loose pages and runs are good
-pub record GoodProgram (goal : Goal) (table : Table) (content : Content) (name : List ℕ) : Type 0 where
+pub record GoodProgram (goal : Goal) (table : Table) (content : Content) (file : ScriptFile) : Type 0 where
   pub program : PlainProgram
-  pub loaded : IsLoaded content name program
+  pub loaded : IsLoaded content file.name file.stubs program
   pub pages : EachIsGood goal table program
   pub runs : RunsAreGood goal table program
 
 -- a program of which this is so
-record ProgramOf (content : Content) (name : List ℕ) (P : PlainProgram → Type 0) : Type 0 where
+record ProgramOf (content : Content) (file : ScriptFile) (P : PlainProgram → Type 0) : Type 0 where
   pub program : PlainProgram
-  pub loaded : IsLoaded content name program
+  pub loaded : IsLoaded content file.name file.stubs program
   pub so : P program
 
 -- why a script is refused by what was told earlier
@@ -138,9 +138,9 @@ record RefusedAt (table : Table) (content : Content) (file : ScriptFile) : Type 
   pub content_is : files.content ≡ content
   pub why : RefusesByTable files file table status text
 
-module _ (root : Option (List ℕ)) (table : Table) (goal : Goal) (limit : ℕ) where
+module _ (list : ScriptFile) (table : Table) (goal : Goal) (limit : ℕ) where
   abbrev May : Content → List ℕ → Line → Type 0
-  May content name line = IsLineFor table goal limit content (script_file name root) line
+  May content name line = IsLineFor table goal limit content (listed list name) line
 
   -- a name and its line, by what was told at its call and stays told
   record LineAt (now : Content) (name : List ℕ) (line : Line) : Type 0 where
@@ -182,74 +182,74 @@ module _ (root : Option (List ℕ)) (table : Table) (goal : Goal) (limit : ℕ) 
       let r = name_for between b ns ls rest line (i, omega (arith, less), is) in
       (r.0, Contains-append_right (n ∷ []) ns r.0 r.1, r.2)
 
-  no_program : (content : Content) (name : List ℕ) (line : Line) → is_no line ≡ true → May content name line → ProgramOf content name (λ p. IsScriptVerdict goal table p exit.No)
+  no_program : (content : Content) (name : List ℕ) (line : Line) → is_no line ≡ true → May content name line → ProgramOf content (listed list name) (λ p. IsScriptVerdict goal table p exit.No)
   no_program content name line e (tells_answer program answer loaded is same) =
       record { program = program; loaded = loaded.loaded; so = no_of goal table program limit answer (subst (λ (l : Line). is_no l ≡ true) same e) is.0 }
   no_program content name line e (tells_refusal files status text c why w same) = absurd (let at : false ≡ true = subst (λ (l : Line). is_no l ≡ true) same e in cc)
 
   undecided_program : (content : Content) (name : List ℕ) (line : Line) → is_undecided line ≡ true → May content name line
-      → ProgramOf content name (λ p. PassesScriptLimit goal table p limit exit.Undecided)
+      → ProgramOf content (listed list name) (λ p. PassesScriptLimit goal table p limit exit.Undecided)
   undecided_program content name line e (tells_answer program answer loaded is same) =
       record { program = program; loaded = loaded.loaded; so = undecided_of goal table program limit answer (subst (λ (l : Line). is_undecided l ≡ true) same e) is.0 }
   undecided_program content name line e (tells_refusal files status text c why w same) = absurd (let at : false ≡ true = subst (λ (l : Line). is_undecided l ≡ true) same e in cc)
 
-  refused_script : (content : Content) (name : List ℕ) (line : Line) → is_refused line ≡ true → May content name line → RefusedAt table content (script_file name root)
+  refused_script : (content : Content) (name : List ℕ) (line : Line) → is_refused line ≡ true → May content name line → RefusedAt table content (listed list name)
   refused_script content name line e (tells_answer program answer loaded is same) = absurd (not_refused answer (subst (λ (l : Line). is_refused l ≡ true) same e))
   refused_script content name line e (tells_refusal files status text c why w same) = record { files = files; status = status; text = text; content_is = c; why = why }
 
   good_program : (content : Content) (name : List ℕ) (line : Line) → is_no line ≡ false → is_undecided line ≡ false → is_refused line ≡ false → May content name line
-      → GoodProgram goal table content name
+      → GoodProgram goal table content (listed list name)
   good_program content name line a b c (tells_answer program answer loaded is same) =
       let good = good_of goal table program limit answer (subst (λ (l : Line). is_no l ≡ false) same a) (subst (λ (l : Line). is_undecided l ≡ false) same b) is in
       record { program = program; loaded = loaded.loaded; pages = good.0; runs = good.1 }
   good_program content name line a b c (tells_refusal files status text f why w same) = absurd (let at : true ≡ false = subst (λ (l : Line). is_refused l ≡ false) same c in cc)
 
 -- where each line is a yes, each name has such a program
-all_good : LoadedStays → (files : SourceCall) (root : Option (List ℕ)) (goal : Goal) (limit : ℕ) (x : ListBy) (lines : List Line) → AreLinesOf files root goal limit x lines
+all_good : LoadedStays → (files : SourceCall) (file : ScriptFile) (goal : Goal) (limit : ℕ) (x : ListBy) (lines : List Line) → AreLinesOf files file goal limit x lines
     → list_any is_no lines ≡ false → list_any is_undecided lines ≡ false → list_any is_refused lines ≡ false
-    → (name : List ℕ) → Contains (names_in x.list) name → GoodProgram goal x.table files.content name
-all_good stay files root goal limit x lines (before, are) a b c name among =
-    let r = line_for root x.table goal limit (moment before files.faults files.misses) (moment files.content files.faults' files.misses') (names_in x.list) lines are name among in
-    let good = good_program root x.table goal limit r.2.earlier name r.0 (no_line is_no lines a r.0 r.1) (no_line is_undecided lines b r.0 r.1) (no_line is_refused lines c r.0 r.1) r.2.may in
-    record { program = good.program; loaded = stay r.2.earlier files.content name good.program r.2.stays good.loaded; pages = good.pages; runs = good.runs }
+    → (name : List ℕ) → Contains (names_in x.list) name → GoodProgram goal x.table files.content (listed file name)
+all_good stay files file goal limit x lines (before, are) a b c name among =
+    let r = line_for file x.table goal limit (moment before files.faults files.misses) (moment files.content files.faults' files.misses') (names_in x.list) lines are name among in
+    let good = good_program file x.table goal limit r.2.earlier name r.0 (no_line is_no lines a r.0 r.1) (no_line is_undecided lines b r.0 r.1) (no_line is_refused lines c r.0 r.1) r.2.may in
+    record { program = good.program; loaded = stay r.2.earlier files.content name file.stubs good.program r.2.stays good.loaded; pages = good.pages; runs = good.runs }
 
 -- the report says what the list comes to, or at which script the decision stops
-pub list_verdict : LoadedStays → (files : SourceCall) (root : Option (List ℕ)) (goal : Goal) (limit : ℕ) (x : ListBy) (lines : List Line) → IsList x.list → AreLinesOf files root goal limit x lines
-    → IsListVerdict files.content goal x.table x.list (site_status lines) ⊎ StopsAtScript files.content root goal x.table limit x.list (site_status lines)
-list_verdict stay files root goal limit x lines is_list (before, are) =
+pub list_verdict : LoadedStays → (files : SourceCall) (file : ScriptFile) (goal : Goal) (limit : ℕ) (x : ListBy) (lines : List Line) → IsList x.list → AreLinesOf files file goal limit x lines
+    → IsListVerdict files.content file.stubs goal x.table x.list (site_status lines) ⊎ StopsAtScript files.content file goal x.table limit x.list (site_status lines)
+list_verdict stay files file goal limit x lines is_list (before, are) =
     let now = moment files.content files.faults' files.misses' in
     let first = moment before files.faults files.misses in
-    by_status lines (λ (s : Exit). IsListVerdict files.content goal x.table x.list s ⊎ StopsAtScript files.content root goal x.table limit x.list s)
+    by_status lines (λ (s : Exit). IsListVerdict files.content file.stubs goal x.table x.list s ⊎ StopsAtScript files.content file goal x.table limit x.list s)
     (λ some.
     let l = some_line is_no lines some in
-    let r = name_for root x.table goal limit first now (names_in x.list) lines are l.0 l.1 in
-    let p = no_program root x.table goal limit r.2.earlier r.0 l.0 l.2 r.2.may in
-    inl (is_list, (p.program, record { name = r.0; named = r.1; loaded = stay r.2.earlier files.content r.0 p.program r.2.stays p.loaded }, p.so)))
+    let r = name_for file x.table goal limit first now (names_in x.list) lines are l.0 l.1 in
+    let p = no_program file x.table goal limit r.2.earlier r.0 l.0 l.2 r.2.may in
+    inl (is_list, (p.program, record { name = r.0; named = r.1; loaded = stay r.2.earlier files.content r.0 file.stubs p.program r.2.stays p.loaded }, p.so)))
     (λ some.
     let l = some_line is_undecided lines some in
-    let r = name_for root x.table goal limit first now (names_in x.list) lines are l.0 l.1 in
-    let p = undecided_program root x.table goal limit r.2.earlier r.0 l.0 l.2 r.2.may in
-    inr (p.program, record { name = r.0; named = r.1; loaded = stay r.2.earlier files.content r.0 p.program r.2.stays p.loaded }, p.so))
+    let r = name_for file x.table goal limit first now (names_in x.list) lines are l.0 l.1 in
+    let p = undecided_program file x.table goal limit r.2.earlier r.0 l.0 l.2 r.2.may in
+    inr (p.program, record { name = r.0; named = r.1; loaded = stay r.2.earlier files.content r.0 file.stubs p.program r.2.stays p.loaded }, p.so))
     (λ some.
     let l = some_line is_refused lines some in
-    let r = name_for root x.table goal limit first now (names_in x.list) lines are l.0 l.1 in
-    let f = refused_script root x.table goal limit r.2.earlier r.0 l.0 l.2 r.2.may in
+    let r = name_for file x.table goal limit first now (names_in x.list) lines are l.0 l.1 in
+    let f = refused_script file x.table goal limit r.2.earlier r.0 l.0 l.2 r.2.may in
     inr (f.files, r.0, f.status, f.text, r.1, subst (λ (c : Content). Stays c files.content) (sym f.content_is) r.2.stays, f.why))
     (λ a b c. inl (
       is_list,
       (λ name among.
-          let g = all_good stay files root goal limit x lines (before, are) a b c name among in
+          let g = all_good stay files file goal limit x lines (before, are) a b c name among in
           (g.program, g.loaded, g.pages)),
     ))
 
 -- and with status 0 that the runs of each program are good
-pub list_means : LoadedStays → (files : SourceCall) (root : Option (List ℕ)) (goal : Goal) (limit : ℕ) (x : ListBy) (lines : List Line) → AreLinesOf files root goal limit x lines → exit.Done ≡ site_status lines
-    → (name : List ℕ) → Contains (names_in x.list) name → (program : PlainProgram) × IsLoaded files.content name program × RunsAreGood goal x.table program
-list_means stay files root goal limit x lines are done =
+pub list_means : LoadedStays → (files : SourceCall) (file : ScriptFile) (goal : Goal) (limit : ℕ) (x : ListBy) (lines : List Line) → AreLinesOf files file goal limit x lines → exit.Done ≡ site_status lines
+    → (name : List ℕ) → Contains (names_in x.list) name → (program : PlainProgram) × IsLoaded files.content name file.stubs program × RunsAreGood goal x.table program
+list_means stay files file goal limit x lines are done =
     by_status lines
-    (λ (s : Exit). exit.Done ≡ s → (name : List ℕ) → Contains (names_in x.list) name → (program : PlainProgram) × IsLoaded files.content name program × RunsAreGood goal x.table program)
+    (λ (s : Exit). exit.Done ≡ s → (name : List ℕ) → Contains (names_in x.list) name → (program : PlainProgram) × IsLoaded files.content name file.stubs program × RunsAreGood goal x.table program)
     (λ a e. absurd (cc)) (λ a e. absurd (cc)) (λ a e. absurd (cc))
-    (λ a b c e name among. let g = all_good stay files root goal limit x lines are a b c name among in (g.program, g.loaded, g.runs)) done
+    (λ a b c e name among. let g = all_good stay files file goal limit x lines are a b c name among in (g.program, g.loaded, g.runs)) done
 
 -- lines that are not refused tell no fault
 none_refused : (status : ℕ) (ls : List Line) → list_any is_refused ls ≡ false → refused_by status ls ≡ 0
@@ -262,12 +262,12 @@ none_refused status (told.Items count ∷ ls) e = let rest = none_refused status
 none_refused status (told.Refused by text ∷ ls) e = absurd (let same : true ≡ false = e in cc)
 
 -- so a fault of the source is told by a line, or by the status
-pub list_faults : (files : SourceCall) (file : ScriptFile) (d : NamedType) (goal : Goal) (limit : ℕ) (x : ListBy) (lines : List Line) → AreLinesOf files file.root goal limit x lines
+pub list_faults : (files : SourceCall) (file : ScriptFile) (d : NamedType) (goal : Goal) (limit : ℕ) (x : ListBy) (lines : List Line) → AreLinesOf files file goal limit x lines
     → FaultsAreTold (list_check file d goal limit) files (site_status lines)
 list_faults files file d goal limit x lines (before, are) =
     by_status lines (λ (s : Exit). Contains (exit.No ∷ exit.Undecided ∷ exit.Site ∷ []) s ⊎ TellsFaults files s)
     (λ a. inl (0, lit< tt, refl)) (λ a. inl (1, lit< tt, refl)) (λ a. inl (2, lit< tt, refl))
-    (λ a b c. inr (inr (calm_throughout (λ content name line. IsLineFor x.table goal limit content (script_file name file.root) line) (moment before files.faults files.misses)
+    (λ a b c. inr (inr (calm_throughout (λ content name line. IsLineFor x.table goal limit content (listed file name) line) (moment before files.faults files.misses)
     (moment files.content files.faults' files.misses') (names_in x.list) lines are (none_refused FAULT_STATUS lines c))))
 
 -- a text whose first bad line there is has a line that is no UTF-8

@@ -221,12 +221,12 @@ no_halt usage x status printed text r e = r
 
 -- what words ask for is more than the usage
 pub asks_more : (for : Asked) → usage ≡ task_of for → ⊥
-asks_more (check file definition root limit by_nesting as_json) e = cc
-asks_more (run file root request steps) e = cc
+asks_more (check file definition root stubs limit by_nesting as_json) e = cc
+asks_more (run file root stubs request steps) e = cc
 asks_more (page file definition root) e = cc
-asks_more (grammar file root) e = cc
+asks_more (grammar file root stubs) e = cc
 asks_more (make functions true) e = cc
 asks_more (make functions false) e = cc
-asks_more (site file definition root limit by_nesting) e = cc
+asks_more (site file definition root stubs limit by_nesting) e = cc
 asks_more help e = cc
 asks_more version e = cc

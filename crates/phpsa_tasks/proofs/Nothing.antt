@@ -21,24 +21,25 @@ use Rattle.phpsa_tasks.specs.Subjects.{LacksFile}
 use Rattle.phpsa_tasks.specs.Counted.{from_misses}
 use Rattle.phpsa_tasks.specs.Causes.{not_loaded, lacks_definition, has_long_text, not_read, page_lacks_definition, no_size, made_refused, list_unread, no_list, list_lacks_definition, Refuses}
 use Rattle.phpsa_tasks.specs.Answered.{statuses_of_nothing}
+use Rattle.phpsa_tasks.proofs.Loading.{fault_rises}
 
 abbrev pub Among : Task → Exit → Type 0
 Among task status = Contains (statuses_of_nothing task) status
 
 -- those of a program that is not loaded
-of_load : (files : SourceCall) (root name : List ℕ) (cause : LoadRefusal) → (Rises files.faults files.faults' → ⊥) → IsLoadCause files root name cause
+of_load : (files : SourceCall) (root name : List ℕ) (stubs : Option (List ℕ)) (cause : LoadRefusal) → (Rises files.faults files.faults' → ⊥) → IsLoadCause files root name stubs cause
     → Contains (Missing ∷ Script ∷ Input ∷ Memory ∷ []) (load_status cause)
-of_load files root name (load.Missing path) calm why = (0, lit< tt, refl)
-of_load files root name (load.Outside path) calm why = (1, lit< tt, refl)
-of_load files root name (load.ReadFault path) calm (named, (stops, rises, misses)) = absurd (calm rises)
-of_load files root name (load.TooLong path len) calm why = (2, lit< tt, refl)
-of_load files root name (load.Script path fault) calm why = (1, lit< tt, refl)
-of_load files root name (load.IncludeCycle path) calm why = (1, lit< tt, refl)
-of_load files root name (load.DoubleFunction function) calm why = (1, lit< tt, refl)
-of_load files root name (load.UnknownFunction function) calm why = (1, lit< tt, refl)
-of_load files root name (load.Arity function) calm why = (1, lit< tt, refl)
-of_load files root name (load.TooMany count) calm why = (2, lit< tt, refl)
-of_load files root name load.Memory calm why = (3, lit< tt, refl)
+of_load files root name stubs (load.Missing path) calm why = (0, lit< tt, refl)
+of_load files root name stubs (load.Outside path) calm why = (1, lit< tt, refl)
+of_load files root name stubs (load.ReadFault path) calm why = absurd (calm (fault_rises files root name stubs path why))
+of_load files root name stubs (load.TooLong path len) calm why = (2, lit< tt, refl)
+of_load files root name stubs (load.Script path fault) calm why = (1, lit< tt, refl)
+of_load files root name stubs (load.IncludeCycle path) calm why = (1, lit< tt, refl)
+of_load files root name stubs (load.DoubleFunction function) calm why = (1, lit< tt, refl)
+of_load files root name stubs (load.UnknownFunction function) calm why = (1, lit< tt, refl)
+of_load files root name stubs (load.Arity function) calm why = (1, lit< tt, refl)
+of_load files root name stubs (load.TooMany count) calm why = (2, lit< tt, refl)
+of_load files root name stubs load.Memory calm why = (3, lit< tt, refl)
 
 of_file : (files : SourceCall) (file : List ℕ) (d : NamedType) (f : FileFault) → (Rises files.faults files.faults' → ⊥)
     → HasReason (files.content file) files.faults files.faults' files.misses files.misses' f → Among (page_check file d) (file_status f)
@@ -93,7 +94,7 @@ of_memory files usage status lacks is = absurd lacks
 pub of_refusal : (files : SourceCall) (task : Task) (status : Exit) (text : List ℕ) → (Rises files.faults files.faults' → ⊥) → LacksFile files.content task → Refuses files task status text
     → Among task status
 of_refusal files (script_check file d goal limit form) status text calm lacks (not_loaded cause why is text_is) =
-    subst (Among (script_check file d goal limit form)) (sym is) (of_load files (root_of file) file.name cause calm why)
+    subst (Among (script_check file d goal limit form)) (sym is) (of_load files (root_of file) file.name file.stubs cause calm why)
 of_refusal files (script_check file d goal limit form) status text calm lacks (lacks_definition program misses found behind why) = absurd (lacks program found)
 of_refusal files (script_check file d goal limit form) status text calm lacks (has_long_text program found long is text_is) = absurd (lacks program found)
 of_refusal files (page_check file d) status text calm lacks (not_read fault why is text_is) = subst (Among (page_check file d)) (sym is) (of_file files file d fault calm why)
@@ -102,9 +103,9 @@ of_refusal files (script_making n) status text calm lacks why = absurd lacks
 of_refusal files (made_check n) status text calm lacks (no_size size is text_is) = subst (Among (made_check n)) (sym is) (0, lit< tt, refl)
 of_refusal files (made_check n) status text calm lacks (made_refused size misses reads why) = absurd (lacks size)
 of_refusal files (script_run file request steps) status text calm lacks (inl (cause, why, is, text_is)) =
-    subst (Among (script_run file request steps)) (sym is) (of_load files (root_of file) file.name cause calm why)
+    subst (Among (script_run file request steps)) (sym is) (of_load files (root_of file) file.name file.stubs cause calm why)
 of_refusal files (script_run file request steps) status text calm lacks (inr (program, found, (misses, behind, why), read)) = of_request (from_misses misses files) file request steps status text calm why
-of_refusal files (grammar_making file) status text calm lacks (inl (cause, why, is, text_is)) = subst (Among (grammar_making file)) (sym is) (of_load files (root_of file) file.name cause calm why)
+of_refusal files (grammar_making file) status text calm lacks (inl (cause, why, is, text_is)) = subst (Among (grammar_making file)) (sym is) (of_load files (root_of file) file.name file.stubs cause calm why)
 of_refusal files (grammar_making file) status text calm lacks (inr (program, found, long, is, text_is)) = absurd (lacks program found)
 of_refusal files (list_check file d goal limit) status text calm lacks (list_unread fault why is text_is) =
     subst (Among (list_check file d goal limit)) (sym is) (of_unread files file d goal limit fault calm why)

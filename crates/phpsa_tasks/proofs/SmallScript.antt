@@ -37,7 +37,7 @@ runs request = refl
 
 -- what the source holds, as a task speaks of it; that it holds the program, in files within their limit, stands in program_loader (SmallProgram)
 abbrev task : Task
-task = script_check (script_file (codes "t.php") None) mini_type Goal.Valid 10000 Plain
+task = script_check (script_file (codes "t.php") None None) mini_type Goal.Valid 10000 Plain
 
 abbrev subject : ProgramBy
 subject = record { program = program; table = mini_table }
@@ -49,14 +49,14 @@ words = codes "check" ∷ codes "t.php" ∷ codes "--dtd" ∷ codes "mini" ∷ [
 abbrev call_with : List ℕ → Call
 call_with written = call_of words (source_call content 0 0 0 0 0 2) (output_of (Some []) (Some written) 0 0) (output_of (Some []) (Some []) 0 0)
 
-owed : AsksFor words task → IsLoadedInside content (script_file (codes "t.php") None) program → IsAnswer Goal.Valid mini_table program 10000 ShownAnswer.Yes → OwesReply (call_with yes_text) Done yes_text
+owed : AsksFor words task → IsLoadedInside content (script_file (codes "t.php") None None) program → IsAnswer Goal.Valid mini_table program 10000 ShownAnswer.Yes → OwesReply (call_with yes_text) Done yes_text
 owed asked loaded is = record {
   task = task;
   asked = asked;
   replies = record { subject = subject; found = (loaded, refl); says = (ShownAnswer.Yes, is, refl, refl) };
 }
 
-ends : AsksFor words task → IsLoadedInside content (script_file (codes "t.php") None) program → IsAnswer Goal.Valid mini_table program 10000 ShownAnswer.Yes → EndsReplied (call_with yes_text) Done
+ends : AsksFor words task → IsLoadedInside content (script_file (codes "t.php") None None) program → IsAnswer Goal.Valid mini_table program 10000 ShownAnswer.Yes → EndsReplied (call_with yes_text) Done
 ends asked loaded is = record { text = yes_text; owed = owed asked loaded is; out = refl; err = refl }
 
 -- one that writes nothing has not written that text

@@ -21,7 +21,7 @@ use Rattle.phpsa_texts.specs.declared.exit.Exit.TheVariants.{Done}
 use Rattle.phpsa_texts.specs.Statuses.{judgment_status, fault_status}
 use Rattle.phpsa_tasks.specs.Tasks.{Task, script_check, page_check, script_making, made_check, script_run, grammar_making, list_check, help_telling, version_telling, usage, AsksFor}
 use Rattle.phpsa_tasks.specs.Call.{Call}
-use Rattle.phpsa_tasks.specs.Subjects.{Subject, made_name, only_made, Finds, Holds}
+use Rattle.phpsa_tasks.specs.Subjects.{Subject, made_file, only_made, Finds, Holds}
 use Rattle.phpsa_tasks.specs.ScriptAnswers.{answer_status}
 use Rattle.phpsa_tasks.specs.Replies.{end_status, IsEarly, IsJudged, IsReplyOf, IsHaltOf, Replies, Halts}
 use Rattle.phpsa_tasks.specs.Endings.{OwesRefusal, of_task, wants_memory, Ends, replied, refused, halted, by_out, by_err, no_memory}
@@ -49,20 +49,20 @@ judged_valid table page false e is = absurd cc
 reply_means : OneProgram → LoadedStays → (files : SourceCall) (task : Task) (x y : Subject task) (text : List ℕ) → Holds files.content task x → Finds files.content task y
     → IsReplyOf files task y Done text → Means files.content task x
 reply_means one stay files (script_check file d goal limit form) x y text (h, t) (found, has) (answer, is, status_is, text_is) =
-    own_program one files.content file.name d x y h t found.loaded has (λ (p : PlainProgram) (s : Table). RunsAreGood goal s p) (runs_of goal y.table y.program answer (sym status_is) is.1)
+    own_program one files.content file d x y h t found.loaded has (λ (p : PlainProgram) (s : Table). RunsAreGood goal s p) (runs_of goal y.table y.program answer (sym status_is) is.1)
 reply_means one stay files (page_check file d) x y text (h, t) (found, has) (valid, is, status_is, text_is) =
     own_page files.content file d x y h t found has (λ (p : List ℕ) (s : Table). Valid s p) (judged_valid y.table y.page valid (sym status_is) is)
 reply_means one stay files (script_making n) x y text h f (size, status_is, text_is) = size
 reply_means one stay files (made_check n) x y text (size, h, t) (size', found, has) (answer, is, status_is, text_is) =
-    own_program one (only_made n) made_name strict_type x y h t found.loaded has (λ (p : PlainProgram) (s : Table). RunsAreGood Goal.Valid s p)
+    own_program one (only_made n) made_file strict_type x y h t found.loaded has (λ (p : PlainProgram) (s : Table). RunsAreGood Goal.Valid s p)
     (runs_of Goal.Valid y.table y.program answer (sym status_is) is.1)
 reply_means one stay files (script_run file request steps) x y text (h, r) (found, finds, admitted) (ended, status_is, text_is) =
-    own_run one files.content file.name request x y h r found.loaded finds (λ (p : PlainProgram) (q : PlainRequest). (meaning p q steps).end ≡ runs.Ended) ended
+    own_run one files.content file request x y h r found.loaded finds (λ (p : PlainProgram) (q : PlainRequest). (meaning p q steps).end ≡ runs.Ended) ended
 reply_means one stay files (grammar_making file) x y text h f r = tt
 reply_means one stay files (list_check file d goal limit) x y text (h, t) (found, has, good) (lines, are, status_is, text_is) =
     own_list files.content file.name d x y h t found has
-    (λ (l : List ℕ) (s : Table). (name : List ℕ) → Contains (names_in l) name → (program : PlainProgram) × IsLoaded files.content name program × RunsAreGood goal s program)
-    (list_means stay files file.root goal limit y lines are status_is)
+    (λ (l : List ℕ) (s : Table). (name : List ℕ) → Contains (names_in l) name → (program : PlainProgram) × IsLoaded files.content name file.stubs program × RunsAreGood goal s program)
+    (list_means stay files file goal limit y lines are status_is)
 reply_means one stay files help_telling x y text h f r = tt
 reply_means one stay files version_telling x y text h f r = tt
 reply_means one stay files usage x y text h f r = absurd r

@@ -1,5 +1,5 @@
 -- What a task speaks of has one verdict.
-use Rattle.std.proofs.Common.{◌≡◌, ◌∙◌, ℕ, List, Option, refl, sym, subst}
+use Rattle.std.proofs.Common.{◌≡◌, ◌∙◌, ℕ, List, refl, sym, subst}
 use Rattle.io_edge.specs.Told.{Content}
 use Rattle.dtd_model.specs.Table.{Table}
 use Rattle.script_meaning.specs.Programs.{PlainProgram}
@@ -54,34 +54,34 @@ usage_once content Usage _ a b = absurd b
 usage_once content _ t a b = absurd a
 
 -- a list whose names each hold a program
-one_named : OneProgram → (content : Content) (root : Option (List ℕ)) (list : List ℕ) (p : PlainProgram) → HoldScripts content root (names_in list) → (o : IsOfList content list p) → (q : PlainProgram) → IsLoaded content o.name q
-    → q ≡ p
-one_named one content root list p hold o q loaded =
+one_named : OneProgram → (content : Content) (file : ScriptFile) (list : List ℕ) (p : PlainProgram) → HoldScripts content file (names_in list) → (o : IsOfList content file.stubs list p) → (q : PlainProgram)
+    → IsLoaded content o.name file.stubs q → q ≡ p
+one_named one content file list p hold o q loaded =
     let h = hold o.name o.named in
-    sym (one content o.name h.0 q h.1.held.holds loaded) ∙ one content o.name h.0 p h.1.held.holds o.loaded
+    sym (one content o.name file.stubs h.0 q h.1.held.holds loaded) ∙ one content o.name file.stubs h.0 p h.1.held.holds o.loaded
 
-not_both : OneProgram → (content : Content) (root : Option (List ℕ)) (goal : Goal) (table : Table) (list : List ℕ) → HoldScripts content root (names_in list) → IsListVerdict content goal table list Done
-    → IsListVerdict content goal table list No → ⊥
-not_both one content root goal table list hold (is, each) (is', (p, o, (page, loose, bad))) =
+not_both : OneProgram → (content : Content) (file : ScriptFile) (goal : Goal) (table : Table) (list : List ℕ) → HoldScripts content file (names_in list) → IsListVerdict content file.stubs goal table list Done
+    → IsListVerdict content file.stubs goal table list No → ⊥
+not_both one content file goal table list hold (is, each) (is', (p, o, (page, loose, bad))) =
     let g = each o.name o.named in
-    let own : EachIsGood goal table p = subst (EachIsGood goal table) (one_named one content root list p hold o g.0 g.1) g.2 in
+    let own : EachIsGood goal table p = subst (EachIsGood goal table) (one_named one content file list p hold o g.0 g.1) g.2 in
     bad (own page loose)
 
-list_once : OneProgram → (content : Content) (root : Option (List ℕ)) (goal : Goal) (table : Table) (list : List ℕ) (s t : Exit) → HoldScripts content root (names_in list) → IsListVerdict content goal table list s
-    → IsListVerdict content goal table list t → s ≡ t
-list_once one content root goal table list Done Done hold a b = refl
-list_once one content root goal table list Done No hold a b = absurd (not_both one content root goal table list hold a b)
-list_once one content root goal table list Done Input hold (is, each) none = absurd (none is)
-list_once one content root goal table list Done _ hold a b = absurd b
-list_once one content root goal table list No No hold a b = refl
-list_once one content root goal table list No Done hold a b = absurd (not_both one content root goal table list hold b a)
-list_once one content root goal table list No Input hold (is, bad) none = absurd (none is)
-list_once one content root goal table list No _ hold a b = absurd b
-list_once one content root goal table list Input Input hold a b = refl
-list_once one content root goal table list Input Done hold none (is, each) = absurd (none is)
-list_once one content root goal table list Input No hold none (is, bad) = absurd (none is)
-list_once one content root goal table list Input _ hold a b = absurd b
-list_once one content root goal table list _ t hold a b = absurd a
+list_once : OneProgram → (content : Content) (file : ScriptFile) (goal : Goal) (table : Table) (list : List ℕ) (s t : Exit) → HoldScripts content file (names_in list)
+    → IsListVerdict content file.stubs goal table list s → IsListVerdict content file.stubs goal table list t → s ≡ t
+list_once one content file goal table list Done Done hold a b = refl
+list_once one content file goal table list Done No hold a b = absurd (not_both one content file goal table list hold a b)
+list_once one content file goal table list Done Input hold (is, each) none = absurd (none is)
+list_once one content file goal table list Done _ hold a b = absurd b
+list_once one content file goal table list No No hold a b = refl
+list_once one content file goal table list No Done hold a b = absurd (not_both one content file goal table list hold b a)
+list_once one content file goal table list No Input hold (is, bad) none = absurd (none is)
+list_once one content file goal table list No _ hold a b = absurd b
+list_once one content file goal table list Input Input hold a b = refl
+list_once one content file goal table list Input Done hold none (is, each) = absurd (none is)
+list_once one content file goal table list Input No hold none (is, bad) = absurd (none is)
+list_once one content file goal table list Input _ hold a b = absurd b
+list_once one content file goal table list _ t hold a b = absurd a
 
 pub one_verdict : OneProgram → (content : Content) (task : Task) (x : Subject task) (s t : Exit) → IsWithin content task x → IsVerdict content task x s → IsVerdict content task x t → s ≡ t
 one_verdict one content (script_check file d goal limit form) x s t w a b = script_once goal x.table x.program s t a b
@@ -90,7 +90,7 @@ one_verdict one content (script_making n) x s t w a b = making_once content n s 
 one_verdict one content (made_check n) x s t w a b = script_once Goal.Valid x.table x.program s t a b
 one_verdict one content (script_run file request steps) x s t w a b = a ∙ sym b
 one_verdict one content (grammar_making file) x s t w a b = grammar_once content file x s t a b
-one_verdict one content (list_check file d goal limit) x s t w a b = list_once one content file.root goal x.table x.list s t w.1 a b
+one_verdict one content (list_check file d goal limit) x s t w a b = list_once one content file goal x.table x.list s t w.1 a b
 one_verdict one content help_telling x s t w a b = a ∙ sym b
 one_verdict one content version_telling x s t w a b = a ∙ sym b
 one_verdict one content usage x s t w a b = usage_once content s t a b

@@ -9,7 +9,7 @@ use Rattle.program_files.specs.Source.{SourceCall}
 use Rattle.phpsa_texts.specs.declared.exit.Exit.{Exit}
 use Rattle.phpsa_tasks.specs.Tasks.{Task, script_check, page_check, script_making, made_check, script_run, grammar_making, list_check, help_telling, version_telling, usage, AsksFor}
 use Rattle.phpsa_tasks.specs.Call.{Call}
-use Rattle.phpsa_tasks.specs.Subjects.{Subject, made_name, only_made, Finds, Holds}
+use Rattle.phpsa_tasks.specs.Subjects.{Subject, made_file, only_made, Finds, Holds}
 use Rattle.phpsa_tasks.specs.Replies.{IsReplyOf, IsHaltOf, Replies, Halts}
 use Rattle.phpsa_tasks.specs.Endings.{OwesRefusal, of_task, wants_memory, Ends, replied, refused, halted, by_out, by_err, no_memory}
 use Rattle.phpsa_tasks.specs.Written.{HasAllWritten, Writes, writes_reply, writes_halt, IsWritten}
@@ -21,16 +21,16 @@ use Rattle.phpsa_tasks.proofs.Answers.{OneTask, the_reply, the_halt}
 own_reply : OneProgram → (files : SourceCall) (task : Task) (x y : Subject task) (status : Exit) (text : List ℕ) → Holds files.content task x → Finds files.content task y
     → IsReplyOf files task y status text → IsReplyOf files task x status text
 own_reply one files (script_check file d goal limit form) x y status text (h, t) (found, has) is =
-    own_program one files.content file.name d x y h t found.loaded has (λ (p : PlainProgram) (s : Table). IsReplyOf files (script_check file d goal limit form) (record { program = p; table = s }) status text) is
+    own_program one files.content file d x y h t found.loaded has (λ (p : PlainProgram) (s : Table). IsReplyOf files (script_check file d goal limit form) (record { program = p; table = s }) status text) is
 own_reply one files (page_check file d) x y status text (h, t) (found, has) is =
     own_page files.content file d x y h t found has (λ (p : List ℕ) (s : Table). IsReplyOf files (page_check file d) (record { page = p; table = s }) status text) is
 own_reply one files (script_making n) x y status text h f is = is
 own_reply one files (made_check n) x y status text (size, h, t) (size', found, has) is =
-    own_program one (only_made n) made_name strict_type x y h t found.loaded has (λ (p : PlainProgram) (s : Table). IsReplyOf files (made_check n) (record { program = p; table = s }) status text) is
+    own_program one (only_made n) made_file strict_type x y h t found.loaded has (λ (p : PlainProgram) (s : Table). IsReplyOf files (made_check n) (record { program = p; table = s }) status text) is
 own_reply one files (script_run file request steps) x y status text (h, r) (found, finds, admitted) is =
-    own_run one files.content file.name request x y h r found.loaded finds (λ (p : PlainProgram) (q : PlainRequest). IsReplyOf files (script_run file request steps) (record { program = p; request = q }) status text) is
+    own_run one files.content file request x y h r found.loaded finds (λ (p : PlainProgram) (q : PlainRequest). IsReplyOf files (script_run file request steps) (record { program = p; request = q }) status text) is
 own_reply one files (grammar_making file) x y status text h found is =
-    subst (λ (p : PlainProgram). IsReplyOf files (grammar_making file) p status text) (sym (one files.content file.name x y h.holds found.loaded)) is
+    subst (λ (p : PlainProgram). IsReplyOf files (grammar_making file) p status text) (sym (one files.content file.name file.stubs x y h.holds found.loaded)) is
 own_reply one files (list_check file d goal limit) x y status text (h, t) (found, has, good) is =
     own_list files.content file.name d x y h t found has (λ (l : List ℕ) (s : Table). IsReplyOf files (list_check file d goal limit) (record { list = l; table = s }) status text) is
 own_reply one files help_telling x y status text h f is = is
@@ -45,7 +45,7 @@ own_halt one content (page_check file d) x y status printed text h f is = absurd
 own_halt one content (script_making n) x y status printed text h f is = absurd is
 own_halt one content (made_check n) x y status printed text h f is = absurd is
 own_halt one content (script_run file request steps) x y status printed text (h, r) (found, finds, admitted) is =
-    own_run one content file.name request x y h r found.loaded finds (λ (p : PlainProgram) (q : PlainRequest). IsHaltOf (script_run file request steps) (record { program = p; request = q }) status printed text) is
+    own_run one content file request x y h r found.loaded finds (λ (p : PlainProgram) (q : PlainRequest). IsHaltOf (script_run file request steps) (record { program = p; request = q }) status printed text) is
 own_halt one content (grammar_making file) x y status printed text h f is = absurd is
 own_halt one content (list_check file d goal limit) x y status printed text h f is = absurd is
 own_halt one content help_telling x y status printed text h f is = absurd is

@@ -65,13 +65,13 @@ abbrev pub RefusesProgram : SourceCall → ScriptFile → Exit → List ℕ → 
 RefusesProgram files file status text =
     (cause : LoadRefusal) × IsLoadCause files (root_of file) file.name file.stubs cause × (status ≡ load_status cause) × (text ≡ load_text cause)
 
--- the program is loaded, and there is no request for it; each name that the program asks for was asked for once, and then that of the
--- request, behind the misses of the program
+-- the program is loaded, and there is no request for it; each name that the program asks for was asked for once, with that of its stubs,
+-- and then that of the request, behind the misses of the program
 abbrev pub LacksRequest : SourceCall → ScriptFile → Option (List ℕ) → Exit → List ℕ → Type 0
 LacksRequest files file request status text =
     (program : PlainProgram) × IsLoadedInside files.content file program
     × ((misses : ℕ) × MissesItsNames files file.name misses × RefusesRequest (from_misses misses files) request status text)
-    × ReadsForRun files file.name request
+    × ReadsForRun files file request
 
 -- a text in the program of a file is over the limit of a run
 abbrev pub RefusesLongText : SourceCall → ScriptFile → Exit → List ℕ → Type 0

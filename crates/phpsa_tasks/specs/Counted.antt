@@ -6,11 +6,12 @@ use Rattle.io_edge.specs.Told.{Content}
 use Rattle.program_rules.specs.Files.{Held}
 use Rattle.program_rules.specs.Programs.{ReadFile, AreRead, AreMissed}
 use Rattle.program_files.specs.Source.{SourceCall, so_many_more, RisesBy}
+use Rattle.program_files.specs.Stubs.{stub_reads}
 use Rattle.program_loader.specs.Told.{AreAnswered}
 use Rattle.document_types.specs.DocumentTypes.{IsBuiltIn}
 use Rattle.phpsa_texts.specs.declared.exit.Exit.{Exit}
 use Rattle.phpsa_texts.specs.declared.exit.Exit.TheVariants.{No, Undecided, Script, Missing, ReadFault, WriteFault, Input, Memory, Site}
-use Rattle.phpsa_tasks.specs.Tasks.{Task, script_check, page_check, script_making, made_check, script_run, grammar_making, list_check, help_telling, version_telling, usage, AsksFor}
+use Rattle.phpsa_tasks.specs.Tasks.{ScriptFile, Task, script_check, page_check, script_making, made_check, script_run, grammar_making, list_check, help_telling, version_telling, usage, AsksFor}
 use Rattle.phpsa_tasks.specs.Call.{Output, Call, IsUnfailed}
 
 -- what the program of the file of a name asks for, each of which was answered: these are its files, and these the names that are not there
@@ -23,10 +24,10 @@ pub record AsksForNames (content : Content) (name : List ℕ) : Type 0 where
   pub missed : List (List ℕ)
   pub are_missed : AreMissed held (normal name) missed
 
--- each of them was asked for once
-pub record ReadsItsFiles (files : SourceCall) (name : List ℕ) : Type 0 where
-  pub asks : AsksForNames files.content name
-  pub counted : files.reads' ≡ so_many_more (length asks.own + length asks.missed) files.reads
+-- each of them was asked for once, and so was the file of stubs, if there is one
+pub record ReadsItsFiles (files : SourceCall) (file : ScriptFile) : Type 0 where
+  pub asks : AsksForNames files.content file.name
+  pub counted : files.reads' ≡ so_many_more (length asks.own + length asks.missed + stub_reads file.stubs) files.reads
 
 -- behind them so many misses are counted: one more for each name that is not there
 pub record MissesItsNames (files : SourceCall) (name : List ℕ) (misses : ℕ) : Type 0 where
@@ -38,7 +39,7 @@ abbrev pub from_misses : ℕ → SourceCall → SourceCall
 from_misses misses files = record files { misses = misses }
 
 -- and for a run that of the file of its request, if there is one, behind them
-abbrev pub ReadsForRun : SourceCall → List ℕ → Option (List ℕ) → Type 0
+abbrev pub ReadsForRun : SourceCall → ScriptFile → Option (List ℕ) → Type 0
 ReadsForRun files file None = ReadsItsFiles files file
 ReadsForRun files file (Some name) =
     (between : ℕ) × ReadsItsFiles (record files { reads' = between }) file × (files.reads' ≡ one_more between)
@@ -57,17 +58,17 @@ abbrev pub uncounted : List Exit
 uncounted = Script ∷ Missing ∷ ReadFault ∷ Input ∷ WriteFault ∷ Memory ∷ []
 
 -- By a built-in definition, or where none is asked for, each name that a task needs is asked for once, but for the statuses above: those
--- of a program, with that of a request; or the page, unless memory was wanting before. The other tasks read nothing; of a list, whose
+-- of a program, with those of its stubs and of a request; or the page, unless memory was wanting before. The other tasks read nothing; of a list, whose
 -- scripts may share files, nothing is said here.
 abbrev pub ReadsFor : Task → SourceCall → Exit → Type 0
 ReadsFor (script_check file document_type goal limit form) files status =
-    IsBuiltIn document_type → Contains uncounted status ⊎ ReadsItsFiles files file.name
+    IsBuiltIn document_type → Contains uncounted status ⊎ ReadsItsFiles files file
 ReadsFor (page_check file document_type) files status =
     IsBuiltIn document_type → (files.reads' ≡ one_more files.reads) ⊎ (ReadsNothing files × IsWanting status)
 ReadsFor (script_making functions) files status = ReadsNothing files
 ReadsFor (made_check functions) files status = ReadsNothing files
-ReadsFor (script_run file request steps) files status = Contains uncounted status ⊎ ReadsForRun files file.name request
-ReadsFor (grammar_making file) files status = Contains uncounted status ⊎ ReadsItsFiles files file.name
+ReadsFor (script_run file request steps) files status = Contains uncounted status ⊎ ReadsForRun files file request
+ReadsFor (grammar_making file) files status = Contains uncounted status ⊎ ReadsItsFiles files file
 ReadsFor (list_check file document_type goal limit) files status = ⊤
 ReadsFor help_telling files status = ReadsNothing files
 ReadsFor version_telling files status = ReadsNothing files

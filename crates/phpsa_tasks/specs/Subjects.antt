@@ -5,7 +5,7 @@ use Rattle.io_edge.specs.Told.{Content, Tells}
 use Rattle.script_meaning.specs.Programs.{PlainProgram}
 use Rattle.script_meaning.specs.Requests.{PlainRequest, Admitted}
 use Rattle.program_rules.specs.Includes.{AllStayInside}
-use Rattle.program_loader.specs.Told.{IsLoaded, HoldsProgram, AreShort}
+use Rattle.program_loader.specs.Told.{IsLoaded, HoldsProgram, AreShort, StubsAreShort}
 use Rattle.dtd_model.specs.Table.{Table}
 use Rattle.document_types.specs.OneFile.{file_alone}
 use Rattle.document_types.specs.DocumentTypes.{NamedType, strict_type, HasTable, NamesAreTold, NamesAreShort, IsTooLarge}
@@ -95,6 +95,7 @@ Finds content usage subject = ⊤
 pub record HoldsShortProgram (content : Content) (file : ScriptFile) (program : PlainProgram) : Type 0 where
   pub holds : HoldsProgram content file.name file.stubs program
   pub short : AreShort holds.held file.name
+  pub short_stubs : StubsAreShort content file.stubs
 
 -- and none of its includes leads out of its root
 pub record HoldsProgramInside (content : Content) (file : ScriptFile) (program : PlainProgram) : Type 0 where

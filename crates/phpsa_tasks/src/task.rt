@@ -10,11 +10,14 @@ use document_types::DocumentType;
 use page_decision::Goal;
 use phpsa_texts::AnswerForm;
 
-/// A file by its name, and the folder that is given as a root, if one is.
+/// A script, or a list of scripts, by the name of its file, and what is given for it: the folder
+/// that is its root, and the file whose functions stand for functions of the host's PHP that the
+/// language has not.
 #[derive(Clone, Copy, Debug, PartialEq, Eq)]
 pub struct ScriptFile<'a> {
     pub name: &'a str,
     pub root: Option<&'a str>,
+    pub stubs: Option<&'a str>,
 }
 
 /// What is to be done.
@@ -53,8 +56,8 @@ pub enum Task<'a> {
     GrammarMaking {
         file: ScriptFile<'a>,
     },
-    /// The scripts of a list in a file are decided, each as `ScriptCheck` does, with the root that
-    /// the list has here.
+    /// The scripts of a list in a file are decided, each as `ScriptCheck` does, with the root and the
+    /// stubs that the list has here.
     ListCheck {
         file: ScriptFile<'a>,
         document_type: DocumentType<'a>,
@@ -103,11 +106,16 @@ pub(crate) fn task_of<'a>(line: CommandLine<'a>) -> Task<'a>
             file,
             definition,
             root,
+            stubs,
             limit,
             by_nesting,
             as_json,
         } => Task::ScriptCheck {
-            file: ScriptFile { name: file, root },
+            file: ScriptFile {
+                name: file,
+                root,
+                stubs,
+            },
             document_type: DocumentType::named(root, definition),
             goal: goal_of(by_nesting),
             limit: u64::from(limit),
@@ -116,10 +124,15 @@ pub(crate) fn task_of<'a>(line: CommandLine<'a>) -> Task<'a>
         CommandLine::Run {
             file,
             root,
+            stubs,
             request,
             steps,
         } => Task::ScriptRun {
-            file: ScriptFile { name: file, root },
+            file: ScriptFile {
+                name: file,
+                root,
+                stubs,
+            },
             request,
             steps: u64::from(steps),
         },
@@ -131,8 +144,12 @@ pub(crate) fn task_of<'a>(line: CommandLine<'a>) -> Task<'a>
             file,
             document_type: DocumentType::named(root, definition),
         },
-        CommandLine::Grammar { file, root } => Task::GrammarMaking {
-            file: ScriptFile { name: file, root },
+        CommandLine::Grammar { file, root, stubs } => Task::GrammarMaking {
+            file: ScriptFile {
+                name: file,
+                root,
+                stubs,
+            },
         },
         CommandLine::Make {
             functions,
@@ -143,10 +160,15 @@ pub(crate) fn task_of<'a>(line: CommandLine<'a>) -> Task<'a>
             file,
             definition,
             root,
+            stubs,
             limit,
             by_nesting,
         } => Task::ListCheck {
-            file: ScriptFile { name: file, root },
+            file: ScriptFile {
+                name: file,
+                root,
+                stubs,
+            },
             document_type: DocumentType::named(root, definition),
             goal: goal_of(by_nesting),
             limit: u64::from(limit),
