@@ -33,8 +33,9 @@ use Rattle.phpsa_main.specs.Loaded.{ReadsRequest, HasRequest, IsReplyOfRun, HasG
 use Rattle.phpsa_main.proofs.ScriptParts.{load_uncounted, load_faults, asked_names}
 
 -- what was loaded read its files
-own_files : (files : SourceCall) (root name : List ℕ) (program : PlainProgram) → Loads files root name program → ReadsItsFiles files name
-own_files files root name program l = record { asks = asked_names files files.content root name program (stays_same files.content files.content refl) l; counted = l.source.counted }
+own_files : (files : SourceCall) (root : List ℕ) (file : ScriptFile) (program : PlainProgram) → Loads files root file.name file.stubs program → ReadsItsFiles files file
+own_files files root file program l =
+    record { asks = asked_names files files.content root file.name file.stubs program (stays_same files.content files.content refl) l; counted = l.source.counted }
 
 -- no memory was left
 pub wanting_grammar : (files : SourceCall) (file : ScriptFile) → Does files (grammar_making file) (Err Refusal.Memory)
@@ -44,41 +45,41 @@ pub wanting_run : (files : SourceCall) (file : ScriptFile) (request : Option (Li
 wanting_run files file request steps = record { due = tt; read = inl (5, lit< tt, refl); faults = wanted_faults files }
 
 -- the program is not loaded
-pub unloaded_grammar : (files : SourceCall) (file : ScriptFile) (cause : LoadRefusal) (refusal : Refusal) → IsLoadCause files (root_of file) file.name cause
+pub unloaded_grammar : (files : SourceCall) (file : ScriptFile) (cause : LoadRefusal) (refusal : Refusal) → IsLoadCause files (root_of file) file.name file.stubs cause
     → IsTold refusal (load_status cause) (load_text cause) → Does files (grammar_making file) (Err refusal)
 unloaded_grammar files file cause (Refusal.Told message) why (status_is, text_is) = record {
   due = inl (cause, why, status_is, text_is);
   read = inl (subst (Contains uncounted) (sym status_is) (load_uncounted cause));
-  faults = told_faults files (load_status cause) message.status status_is (load_faults files (root_of file) file.name cause why);
+  faults = told_faults files (load_status cause) message.status status_is (load_faults files (root_of file) file.name file.stubs cause why);
 }
 unloaded_grammar files file cause Refusal.Memory why says = wanting_grammar files file
 
-pub unloaded_run : (files : SourceCall) (file : ScriptFile) (request : Option (List ℕ)) (steps : ℕ) (cause : LoadRefusal) (refusal : Refusal) → IsLoadCause files (root_of file) file.name cause
+pub unloaded_run : (files : SourceCall) (file : ScriptFile) (request : Option (List ℕ)) (steps : ℕ) (cause : LoadRefusal) (refusal : Refusal) → IsLoadCause files (root_of file) file.name file.stubs cause
     → IsTold refusal (load_status cause) (load_text cause) → Does files (script_run file request steps) (Err refusal)
 unloaded_run files file request steps cause (Refusal.Told message) why (status_is, text_is) = record {
   due = inl (cause, why, status_is, text_is);
   read = inl (subst (Contains uncounted) (sym status_is) (load_uncounted cause));
-  faults = told_faults files (load_status cause) message.status status_is (load_faults files (root_of file) file.name cause why);
+  faults = told_faults files (load_status cause) message.status status_is (load_faults files (root_of file) file.name file.stubs cause why);
 }
 unloaded_run files file request steps cause Refusal.Memory why says = wanting_run files file request steps
 
 -- the grammar of the program is made, or not
-pub grammar_does : (files : SourceCall) (file : ScriptFile) (program : PlainProgram) (result : TaskResult) → Loads files (root_of file) file.name program → IsLoadedInside files.content file program
+pub grammar_does : (files : SourceCall) (file : ScriptFile) (program : PlainProgram) (result : TaskResult) → Loads files (root_of file) file.name file.stubs program → IsLoadedInside files.content file program
     → HasGrammarReply program file.name result → Does files (grammar_making file) result
 grammar_does files file program (Ok (reply.Text message)) l loaded says = record {
   due = record { subject = program; found = loaded; says = says };
-  read = inr (own_files files (root_of file) file.name program l);
+  read = inr (own_files files (root_of file) file program l);
   faults = inr l.source.unfailed;
 }
 grammar_does files file program (Ok (reply.Grammar grammar)) l loaded says = record {
   due = record { subject = program; found = loaded; says = inl ((grammar.productions.items, grammar.start, says, refl), refl) };
-  read = inr (own_files files (root_of file) file.name program l);
+  read = inr (own_files files (root_of file) file program l);
   faults = inr l.source.unfailed;
 }
 grammar_does files file program (Ok (reply.Halted printed message)) l loaded says = absurd says
 grammar_does files file program (Err (Refusal.Told message)) l loaded (long, (status_is, text_is)) = record {
   due = inr (program, loaded, long, status_is, text_is);
-  read = inr (own_files files (root_of file) file.name program l);
+  read = inr (own_files files (root_of file) file program l);
   faults = inr l.source.unfailed;
 }
 grammar_does files file program (Err Refusal.Memory) l loaded says = wanting_grammar files file
@@ -126,41 +127,41 @@ refuses files misses reads (Some name) status text (unread fault why status_is t
 refuses files misses reads (Some name) status text (no_request_in bytes cause told why status_is text_is) = no_request_in bytes cause told why status_is text_is
 
 -- the names of the program, which were answered before the request was read, and that of the request
-run_reads : (files : SourceCall) (root name : List ℕ) (request : Option (List ℕ)) (program : PlainProgram) (content : Content) (faults misses reads : ℕ)
-    → Stays content files.content → Loads (source_call content files.faults faults files.misses misses files.reads reads) root name program
-    → ReadsRequest (source_call files.content files.faults files.faults' misses files.misses' reads files.reads') request → ReadsForRun files name request
-run_reads files root name None program content faults misses reads stays l counted = record {
-  asks = asked_names (source_call content files.faults faults files.misses misses files.reads reads) files.content root name program stays l;
+run_reads : (files : SourceCall) (root : List ℕ) (file : ScriptFile) (request : Option (List ℕ)) (program : PlainProgram) (content : Content) (faults misses reads : ℕ)
+    → Stays content files.content → Loads (source_call content files.faults faults files.misses misses files.reads reads) root file.name file.stubs program
+    → ReadsRequest (source_call files.content files.faults files.faults' misses files.misses' reads files.reads') request → ReadsForRun files file request
+run_reads files root file None program content faults misses reads stays l counted = record {
+  asks = asked_names (source_call content files.faults faults files.misses misses files.reads reads) files.content root file.name file.stubs program stays l;
   counted = counted ∙ l.source.counted;
 }
-run_reads files root name (Some asked) program content faults misses reads stays l counted = (
+run_reads files root file (Some asked) program content faults misses reads stays l counted = (
   reads,
   record {
-    asks = asked_names (source_call content files.faults faults files.misses misses files.reads reads) files.content root name program stays l;
+    asks = asked_names (source_call content files.faults faults files.misses misses files.reads reads) files.content root file.name file.stubs program stays l;
     counted = l.source.counted;
   },
   counted,
 )
 
 -- the misses of the program come before the request is read
-run_misses : (files : SourceCall) (root name : List ℕ) (program : PlainProgram) (content : Content) (faults misses reads : ℕ)
-    → Stays content files.content → Loads (source_call content files.faults faults files.misses misses files.reads reads) root name program → MissesItsNames files name misses
-run_misses files root name program content faults misses reads stays l = record {
-  asks = asked_names (source_call content files.faults faults files.misses misses files.reads reads) files.content root name program stays l;
+run_misses : (files : SourceCall) (root name : List ℕ) (stubs : Option (List ℕ)) (program : PlainProgram) (content : Content) (faults misses reads : ℕ)
+    → Stays content files.content → Loads (source_call content files.faults faults files.misses misses files.reads reads) root name stubs program → MissesItsNames files name misses
+run_misses files root name stubs program content faults misses reads stays l = record {
+  asks = asked_names (source_call content files.faults faults files.misses misses files.reads reads) files.content root name stubs program stays l;
   counted = l.source.misses;
 }
 
 -- there is no request
 pub lacks_request : (files : SourceCall) (file : ScriptFile) (request : Option (List ℕ)) (steps : ℕ) (content : Content) (faults misses reads : ℕ) (program : PlainProgram) (refusal : Refusal)
-    → Stays content files.content → Loads (source_call content files.faults faults files.misses misses files.reads reads) (root_of file) file.name program → IsLoadedInside files.content file program
+    → Stays content files.content → Loads (source_call content files.faults faults files.misses misses files.reads reads) (root_of file) file.name file.stubs program → IsLoadedInside files.content file program
     → HasRequest (source_call files.content files.faults files.faults' misses files.misses' reads files.reads') request (Err refusal)
     → Does files (script_run file request steps) (Err refusal)
 lacks_request files file request steps content faults misses reads program (Refusal.Told message) stays l loaded (why, counted, among, told) = record {
   due = inr (
     program,
     loaded,
-    (misses, run_misses files (root_of file) file.name program content faults misses reads stays l, refuses files misses reads request message.status message.text why),
-    run_reads files (root_of file) file.name request program content faults misses reads stays l counted,
+    (misses, run_misses files (root_of file) file.name file.stubs program content faults misses reads stays l, refuses files misses reads request message.status message.text why),
+    run_reads files (root_of file) file request program content faults misses reads stays l counted,
   );
   read = inl among;
   faults = told;
@@ -169,7 +170,7 @@ lacks_request files file request steps content faults misses reads program Refus
 
 -- the program was run
 pub run_does : (files : SourceCall) (file : ScriptFile) (request : Option (List ℕ)) (steps : ℕ) (content : Content) (faults misses reads : ℕ) (program : PlainProgram) (asked : PlainRequest) (own : Reply)
-    → Stays content files.content → Loads (source_call content files.faults faults files.misses misses files.reads reads) (root_of file) file.name program → IsLoadedInside files.content file program
+    → Stays content files.content → Loads (source_call content files.faults faults files.misses misses files.reads reads) (root_of file) file.name file.stubs program → IsLoadedInside files.content file program
     → HasRequest (source_call files.content files.faults files.faults' misses files.misses' reads files.reads') request (Ok asked) → Admitted asked
     → IsReplyOfRun program asked steps own → Does files (script_run file request steps) (Ok own)
 run_does files file request steps content faults misses reads program asked (reply.Text message) stays l loaded (finds, counted, calm) admitted (ended, (status_is, text_is)) = record {
@@ -178,7 +179,7 @@ run_does files file request steps content faults misses reads program asked (rep
     found = (loaded, finds, admitted);
     says = (ended, status_is, text_is);
   };
-  read = inr (run_reads files (root_of file) file.name request program content faults misses reads stays l counted);
+  read = inr (run_reads files (root_of file) file request program content faults misses reads stays l counted);
   faults = inr calm;
 }
 run_does files file request steps content faults misses reads program asked (reply.Grammar grammar) stays l loaded has admitted says = absurd says
@@ -189,6 +190,6 @@ run_does files file request steps content faults misses reads program asked (rep
         found = (loaded, finds, admitted);
         says = (early, status_is, printed_is, text_is);
       };
-      read = inr (run_reads files (root_of file) file.name request program content faults misses reads stays l counted);
+      read = inr (run_reads files (root_of file) file request program content faults misses reads stays l counted);
       faults = inr calm;
     }

@@ -1,17 +1,20 @@
 -- What the parts of the command find makes what doing the task comes to.
-use Rattle.std.proofs.Common.{◌≡◌, ◌+◌, ℕ, List, [], length, Contains, inl, inr, refl, sym, subst, lit<}
+use Rattle.std.proofs.Common.{◌≡◌, ◌∙◌, ◌+◌, ℕ, List, [], length, Contains, Option, None, Some, inl, inr, refl, sym, subst, lit<}
 use Rattle.std.specs.Prelude.{◌⊎◌, Ok, Err}
 use Rattle.io_edge.specs.Names.{normal}
 use Rattle.io_edge.specs.Told.{Content, Stays}
 use Rattle.io_edge.proofs.Staying.{tells_stay}
+use Rattle.php_syntax.specs.Trees.{PlainFunction}
 use Rattle.script_meaning.specs.Programs.{PlainProgram}
 use Rattle.program_rules.specs.Files.{Held, HasTree}
 use Rattle.program_rules.specs.Programs.{ReadFile}
 use Rattle.program_files.specs.Order.{Reached}
 use Rattle.program_files.specs.Source.{SourceCall, source_call, so_many_more}
+use Rattle.program_files.specs.Stubs.{HasStubs, stub_reads, IsStubFileCause}
+use Rattle.program_files.specs.declared.refusal.ScriptRefusal.{ScriptRefusal}
 use Rattle.program_files.specs.declared.refusal.LoadRefusal.{LoadRefusal}
 use Rattle.program_files.specs.declared.refusal.LoadRefusal.TheVariants as load
-use Rattle.program_loader.specs.Causes.{Loads, IsLoadCause}
+use Rattle.program_loader.specs.Causes.{Loads, LacksStubs, IsLoadCause}
 use Rattle.program_loader.specs.Told.{AreAnswered}
 use Rattle.dtd_model.specs.Table.{Table}
 use Rattle.document_types.specs.DocumentTypes.{NamedType, HasTable, IsBuiltIn, IsDefinitionRefusal}
@@ -33,6 +36,7 @@ use Rattle.phpsa_tasks.specs.Counted.{uncounted, AsksForNames, ReadsItsFiles, Mi
 use Rattle.phpsa_tasks.specs.Results.{Does}
 use Rattle.phpsa_tasks.proofs.Faults.{told_faults, wanted_faults}
 use Rattle.phpsa_tasks.proofs.Defining.{definition_faults}
+use Rattle.phpsa_tasks.proofs.Loading.{at_stubs}
 use Rattle.phpsa_main.specs.Decided.{Decision, IsDecidedAs, Decides, IsProgramRefused, IsProgramDecided}
 
 pub load_uncounted : (cause : LoadRefusal) → Contains uncounted (load_status cause)
@@ -48,34 +52,54 @@ load_uncounted (load.Arity name) = (0, lit< tt, refl)
 load_uncounted (load.TooMany count) = (3, lit< tt, refl)
 load_uncounted load.Memory = (5, lit< tt, refl)
 
-pub load_faults : (call : SourceCall) (root name : List ℕ) (cause : LoadRefusal) → IsLoadCause call root name cause → (load_status cause ≡ ReadFault) ⊎ (call.faults' ≡ call.faults)
-load_faults call root name (load.Missing path) (named, (missing, same)) = inr same
-load_faults call root name (load.Outside path) (written, (leads, same)) = inr same
-load_faults call root name (load.ReadFault path) why = inl refl
-load_faults call root name (load.TooLong path len) (named, (stops, over, least, same, others)) = inr same
-load_faults call root name (load.Script path fault) (named, (stops, broken, same, others)) = inr same
-load_faults call root name (load.IncludeCycle path) why = inr why.source.unfailed
-load_faults call root name (load.DoubleFunction function) why = inr why.source.unfailed
-load_faults call root name (load.UnknownFunction function) why = inr why.source.unfailed
-load_faults call root name (load.Arity function) why = inr why.source.unfailed
-load_faults call root name (load.TooMany count) (inl (is, many, same)) = inr same
-load_faults call root name (load.TooMany count) (inr large) = inr large.source.unfailed
-load_faults call root name load.Memory (missed, same) = inr same
+-- a refusal of the stubs, but for a fault of the source
+calm_missing : (call : SourceCall) (name path : List ℕ) → IsStubFileCause call name (load.Missing path) → call.faults' ≡ call.faults
+calm_missing call name path (is, none, counted, rises, same) = same
+
+calm_long : (call : SourceCall) (name path : List ℕ) (len : ℕ) → IsStubFileCause call name (load.TooLong path len) → call.faults' ≡ call.faults
+calm_long call name path len (is, counted, over, least, same, unmissed) = same
+
+calm_script : (call : SourceCall) (name path : List ℕ) (fault : ScriptRefusal) → IsStubFileCause call name (load.Script path fault) → call.faults' ≡ call.faults
+calm_script call name path fault (is, counted, broken, same, unmissed) = same
+
+-- behind files that were all read
+behind_files : (call : SourceCall) (root name : List ℕ) (stubs : Option (List ℕ)) (cause : LoadRefusal) → ((other : SourceCall) (own : List ℕ) → IsStubFileCause other own cause → other.faults' ≡ other.faults)
+    → LacksStubs call root name stubs cause → call.faults' ≡ call.faults
+behind_files call root name stubs cause calm why =
+    at_stubs (call.faults' ≡ call.faults) call root name stubs cause why
+    (λ own r. calm (source_call call.content r.faults call.faults' r.misses call.misses' r.reads call.reads') own r.cause ∙ r.source.unfailed)
+
+pub load_faults : (call : SourceCall) (root name : List ℕ) (stubs : Option (List ℕ)) (cause : LoadRefusal) → IsLoadCause call root name stubs cause → (load_status cause ≡ ReadFault) ⊎ (call.faults' ≡ call.faults)
+load_faults call root name stubs (load.Missing path) (inl (named, (missing, same))) = inr same
+load_faults call root name stubs (load.Missing path) (inr why) = inr (behind_files call root name stubs (load.Missing path) (λ other own is. calm_missing other own path is) why)
+load_faults call root name stubs (load.Outside path) (written, (leads, same)) = inr same
+load_faults call root name stubs (load.ReadFault path) why = inl refl
+load_faults call root name stubs (load.TooLong path len) (inl (named, (stops, over, least, same, others))) = inr same
+load_faults call root name stubs (load.TooLong path len) (inr why) = inr (behind_files call root name stubs (load.TooLong path len) (λ other own is. calm_long other own path len is) why)
+load_faults call root name stubs (load.Script path fault) (inl (named, (stops, broken, same, others))) = inr same
+load_faults call root name stubs (load.Script path fault) (inr why) = inr (behind_files call root name stubs (load.Script path fault) (λ other own is. calm_script other own path fault is) why)
+load_faults call root name stubs (load.IncludeCycle path) why = inr why.source.unfailed
+load_faults call root name stubs (load.DoubleFunction function) why = inr why.source.unfailed
+load_faults call root name stubs (load.UnknownFunction function) why = inr why.source.unfailed
+load_faults call root name stubs (load.Arity function) why = inr why.source.unfailed
+load_faults call root name stubs (load.TooMany count) (inl (is, many, same)) = inr same
+load_faults call root name stubs (load.TooMany count) (inr large) = inr large.source.unfailed
+load_faults call root name stubs load.Memory (missed, same) = inr same
 
 -- the program is not loaded
-pub load_decides : (files : SourceCall) (file : ScriptFile) (d : NamedType) (goal : Goal) (limit : ℕ) (cause : LoadRefusal) (refusal : Refusal) → IsLoadCause files (root_of file) file.name cause
+pub load_decides : (files : SourceCall) (file : ScriptFile) (d : NamedType) (goal : Goal) (limit : ℕ) (cause : LoadRefusal) (refusal : Refusal) → IsLoadCause files (root_of file) file.name file.stubs cause
     → IsTold refusal (load_status cause) (load_text cause) → Decides files file d goal limit (Err refusal)
 load_decides files file d goal limit cause (Refusal.Told message) why (status_is, text_is) = record {
   why = not_loaded cause why status_is text_is;
   read = λ built_in. inl (subst (Contains uncounted) (sym status_is) (load_uncounted cause));
-  faults = told_faults files (load_status cause) message.status status_is (load_faults files (root_of file) file.name cause why);
+  faults = told_faults files (load_status cause) message.status status_is (load_faults files (root_of file) file.name file.stubs cause why);
 }
 load_decides files file d goal limit cause Refusal.Memory why says = tt
 
 -- there is no definition
 pub definition_decides : (files : SourceCall) (file : ScriptFile) (d : NamedType) (goal : Goal) (limit : ℕ) (cause : DefinitionRefusal) (refusal : Refusal)
     (program : PlainProgram) (misses : ℕ) → IsLoadedInside files.content file program → MissesItsNames files file.name misses
-    → IsDefinitionRefusal (definition_call (from_misses misses files)) d cause → (IsBuiltIn d → ReadsItsFiles files file.name) → IsTold refusal (definition_status cause) (definition_text cause) → Decides files file d goal limit (Err refusal)
+    → IsDefinitionRefusal (definition_call (from_misses misses files)) d cause → (IsBuiltIn d → ReadsItsFiles files file) → IsTold refusal (definition_status cause) (definition_text cause) → Decides files file d goal limit (Err refusal)
 definition_decides files file d goal limit cause (Refusal.Told message) program misses loaded behind why read (status_is, text_is) = record {
   why = lacks_definition program misses loaded behind (not_defined cause why status_is text_is);
   read = λ built_in. inr (read built_in);
@@ -91,7 +115,7 @@ program_refused files file d table program misses message has loaded behind (inr
 
 -- the program is decided, or not
 pub program_decides : (files : SourceCall) (file : ScriptFile) (d : NamedType) (goal : Goal) (limit : ℕ) (table : Table) (program : PlainProgram) (misses : ℕ) (decision : Decision)
-    → HasTable files.content d table → IsLoadedInside files.content file program → MissesItsNames files file.name misses → (IsBuiltIn d → ReadsItsFiles files file.name)
+    → HasTable files.content d table → IsLoadedInside files.content file program → MissesItsNames files file.name misses → (IsBuiltIn d → ReadsItsFiles files file)
     → files.faults' ≡ files.faults → IsProgramDecided table program file.name goal limit decision → Decides files file d goal limit decision
 program_decides files file d goal limit table program misses (Ok answer) has loaded behind read calm is =
     record { program = program; table = table; loaded = loaded; has = has; is_answer = is; read = read; calm = calm }
@@ -106,13 +130,20 @@ program_decides files file d goal limit table program misses (Err Refusal.Memory
 pub answers_stay : (before now : Content) (held : Held) (name : List ℕ) → Stays before now → AreAnswered before held name → AreAnswered now held name
 answers_stay before now held name stays answered path asks = tells_stay before now path (held.bytes path) stays (answered path asks)
 
+stubs_stay : (before now : Content) (stubs : Option (List ℕ)) (functions : List PlainFunction) → Stays before now → HasStubs before stubs functions → HasStubs now stubs functions
+stubs_stay before now None functions stays has = has
+stubs_stay before now (Some name) functions stays has =
+    record { bytes = has.bytes; tree = has.tree; told = tells_stay before now (normal name) (Some has.bytes) stays has.told; is_stub = has.is_stub; are = has.are }
+
 -- what was loaded in its root goes on to be so
-pub loaded_inside : (call : SourceCall) (content : Content) (file : ScriptFile) (p : PlainProgram) → Stays call.content content → Loads call (root_of file) file.name p → IsLoadedInside content file p
+pub loaded_inside : (call : SourceCall) (content : Content) (file : ScriptFile) (p : PlainProgram) → Stays call.content content → Loads call (root_of file) file.name file.stubs p → IsLoadedInside content file p
 loaded_inside call content file p stays l = record {
   loaded = record {
     held = l.source.held;
     main = l.source.main;
     answered = answers_stay call.content content l.source.held file.name stays l.source.answered;
+    functions = l.source.functions;
+    has_stubs = stubs_stay call.content content file.stubs l.source.functions stays l.source.has_stubs;
     is_program = record {
       is_program = l.is_program;
       in_order = subst (λ (fs : List ReadFile). Reached (HasTree l.source.held) (normal file.name) fs []) (sym l.its_files) l.source.in_order;
@@ -122,8 +153,8 @@ loaded_inside call content file p stays l = record {
 }
 
 -- what was loaded asks for these names
-abbrev pub asked_names : (call : SourceCall) (content : Content) (root name : List ℕ) (p : PlainProgram) → Stays call.content content → Loads call root name p → AsksForNames content name
-asked_names call content root name p stays l = record {
+abbrev pub asked_names : (call : SourceCall) (content : Content) (root name : List ℕ) (stubs : Option (List ℕ)) (p : PlainProgram) → Stays call.content content → Loads call root name stubs p → AsksForNames content name
+asked_names call content root name stubs p stays l = record {
   held = l.source.held;
   main = l.source.main;
   answered = answers_stay call.content content l.source.held name stays l.source.answered;
@@ -134,17 +165,17 @@ asked_names call content root name p stays l = record {
 }
 
 -- they are all that was asked for
-pub reads_its_files : (call : SourceCall) (content : Content) (faults misses reads : ℕ) (root name : List ℕ) (p : PlainProgram) → Stays call.content content → Loads call root name p → reads ≡ call.reads'
-    → ReadsItsFiles (source_call content call.faults faults call.misses misses call.reads reads) name
-reads_its_files call content faults misses reads root name p stays l same = record {
-  asks = asked_names call content root name p stays l;
-  counted = subst (λ (n : ℕ). n ≡ so_many_more (length l.source.files + length l.source.missed) call.reads) (sym same) l.source.counted;
+pub reads_its_files : (call : SourceCall) (content : Content) (faults misses reads : ℕ) (root : List ℕ) (file : ScriptFile) (p : PlainProgram) → Stays call.content content
+    → Loads call root file.name file.stubs p → reads ≡ call.reads' → ReadsItsFiles (source_call content call.faults faults call.misses misses call.reads reads) file
+reads_its_files call content faults misses reads root file p stays l same = record {
+  asks = asked_names call content root file.name file.stubs p stays l;
+  counted = subst (λ (n : ℕ). n ≡ so_many_more (length l.source.files + length l.source.missed + stub_reads file.stubs) call.reads) (sym same) l.source.counted;
 }
 
 -- and those that are not there all that was missed
-pub misses_its_names : (call : SourceCall) (content : Content) (faults misses reads : ℕ) (root name : List ℕ) (p : PlainProgram) → Stays call.content content → Loads call root name p
+pub misses_its_names : (call : SourceCall) (content : Content) (faults misses reads : ℕ) (root name : List ℕ) (stubs : Option (List ℕ)) (p : PlainProgram) → Stays call.content content → Loads call root name stubs p
     → MissesItsNames (source_call content call.faults faults call.misses misses call.reads reads) name call.misses'
-misses_its_names call content faults misses reads root name p stays l = record { asks = asked_names call content root name p stays l; counted = l.source.misses }
+misses_its_names call content faults misses reads root name stubs p stays l = record { asks = asked_names call content root name stubs p stays l; counted = l.source.misses }
 
 -- no memory was left
 pub wanting_does : (files : SourceCall) (file : ScriptFile) (d : NamedType) (goal : Goal) (limit : ℕ) (form : AnswerForm)

@@ -32,13 +32,13 @@ pub record IsDecidedAs (files : SourceCall) (file : ScriptFile) (document_type :
   pub loaded : IsLoadedInside files.content file program
   pub has : HasTable files.content document_type table
   pub is_answer : IsAnswer goal table program limit answer
-  pub read : IsBuiltIn document_type → ReadsItsFiles files file.name
+  pub read : IsBuiltIn document_type → ReadsItsFiles files file
   pub calm : files.faults' ≡ files.faults
 
 -- the script is refused by this message; each name that it asks for was asked for once, unless it was not loaded, and a fault is told
 pub record IsRefusedBy (files : SourceCall) (file : ScriptFile) (document_type : NamedType) (message : Message) : Type 0 where
   pub why : RefusesScript files file document_type message.status message.text
-  pub read : IsBuiltIn document_type → Contains uncounted message.status ⊎ ReadsItsFiles files file.name
+  pub read : IsBuiltIn document_type → Contains uncounted message.status ⊎ ReadsItsFiles files file
   pub faults : TellsFaults files message.status
 
 -- what deciding the script of a file comes to, where it is loaded for this

@@ -1,6 +1,6 @@
 //! The scripts of a list.
 
-ghost use Rattle.std.specs.Prelude.{map, option_map, string_bytes};
+ghost use Rattle.std.specs.Prelude.{map, string_bytes};
 ghost use Rattle.io_edge.specs.Told.{Stays};
 ghost use Rattle.dtd_model.specs.TableOf.{table_of};
 ghost use Rattle.program_files.specs.Source.{source_call};
@@ -28,7 +28,7 @@ fn report_on<F: Files>(
     answers: &ByDefinition<'_>,
     files: &mut F,
 ) -> Result<Reply, Refusal>
-    ensures report { HasReport (option_map (λ root. root.now) answers.now.root)
+    ensures report { HasReport (script_file_as answers.now.list)
         (table_of answers.now.dtd.now) answers.now.goal answers.now.limit
         (moment (F.content files.old) (F.faults files.old) (F.misses files.old))
         (moment (F.content files.new) (F.faults files.new) (F.misses files.new))
@@ -46,8 +46,9 @@ fn report_on<F: Files>(
 }
 
 /// Decides each script of the list in the file, as `check_script` does for that script alone with
-/// the root that is given here: a report with a line for each, in the order of the list, and its status. The list is read first,
-/// then what the document type asks for, once, and then the scripts.
+/// the root and the stubs that are given here: a report with a line for each, in the order of the
+/// list, and its status. The list is read first, then what the document type asks for, once, and
+/// then the scripts.
 ///
 /// # Errors
 ///
@@ -77,7 +78,7 @@ pub(crate) fn check_list<F: Files>(
         Err(refusal) => return Err(definition_refusal(alloc, &refusal)),
     };
     let answers = ByDefinition {
-        root: file.root,
+        list: file,
         dtd: &dtd,
         goal,
         limit,

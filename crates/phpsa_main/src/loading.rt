@@ -1,4 +1,4 @@
-//! The program of a file, by its root.
+//! The program of a file, by its root and its stubs.
 
 ghost use Rattle.std.specs.Prelude.{IfOk, IfErr};
 ghost use Rattle.io_edge.specs.Told.{Stays};
@@ -16,7 +16,8 @@ use program_rules::Program;
 use std::alloc::Global;
 
 /// The program of the file, with all that it includes in its root: the folder that is given, or else
-/// that of the call where the file lies in it, or else that of the file.
+/// that of the call where the file lies in it, or else that of the file; and with the functions of
+/// its stubs that it takes.
 ///
 /// # Errors
 ///
@@ -29,13 +30,15 @@ pub(crate) fn load_script<F: Files>(
     ensures ok { IfOk result (λ program. Loads
         (source_call (F.content files.new) (F.faults files.old) (F.faults files.new)
         (F.misses files.old) (F.misses files.new) (F.reads files.old) (F.reads files.new))
-        (root_of (script_file_as file.entry)) file.entry.name.now (program_of program)) }
+        (root_of (script_file_as file.entry)) file.entry.name.now (script_file_as file.entry).stubs
+        (program_of program)) }
     ensures err { IfErr result (IsLoadCause
         (source_call (F.content files.new) (F.faults files.old) (F.faults files.new)
         (F.misses files.old) (F.misses files.new) (F.reads files.old) (F.reads files.new))
-        (root_of (script_file_as file.entry)) file.entry.name.now) }
+        (root_of (script_file_as file.entry)) file.entry.name.now
+        (script_file_as file.entry).stubs) }
     ensures stays { Stays (F.content files.old) (F.content files.new) }
 {
     let root = root_for(alloc, file.root, file.name)?;
-    load(alloc, files, root.as_str(), file.name)
+    load(alloc, files, root.as_str(), file.name, file.stubs)
 }

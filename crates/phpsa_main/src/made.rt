@@ -40,6 +40,7 @@ fn decided(alloc: Global, script: Bytes) -> Result<ShownAnswer, Refusal>
     let file = ScriptFile {
         name: MADE_NAME,
         root: None,
+        stubs: None,
     };
     decide_script(
         alloc,

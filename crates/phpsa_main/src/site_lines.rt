@@ -1,8 +1,9 @@
 //! The line of a report for a script, by a definition that is read.
 
-ghost use Rattle.std.specs.Prelude.{IfOk, option_map};
+ghost use Rattle.std.specs.Prelude.{IfOk};
 ghost use Rattle.dtd_model.specs.TableOf.{table_of};
-ghost use Rattle.phpsa_tasks.specs.Tasks.{script_file};
+ghost use Rattle.phpsa_tasks.specs.Tasks.{listed};
+ghost use Rattle.phpsa_tasks.specs.Views.{script_file_as};
 ghost use Rattle.phpsa_tasks.specs.Sites.{IsLineFor};
 ghost use Rattle.phpsa_main.specs.Reported.{IsRefusedLine};
 
@@ -17,11 +18,11 @@ use site_check::{Answers, Line};
 use std::alloc::Global;
 use text_base::{Bytes, NoMemory, behind, front};
 
-/// What decides scripts: the root of all of them, if one is given, a definition, a goal, and a limit
-/// on the sums of a nonterminal.
+/// What decides the scripts of a list: the root and the stubs that are given for it, if they are, a
+/// definition, a goal, and a limit on the sums of a nonterminal.
 #[derive(Clone, Copy)]
 pub(crate) struct ByDefinition<'a> {
-    pub(crate) root: Option<&'a str>,
+    pub(crate) list: ScriptFile<'a>,
     pub(crate) dtd: &'a Dtd,
     pub(crate) goal: Goal,
     pub(crate) limit: u64,
@@ -51,12 +52,13 @@ fn refused_line(alloc: Global, refusal: &Refusal) -> Result<Line, NoMemory>
 impl<'a> Answers for ByDefinition<'a> {
     ghost may = { λ by content name line.
         IsLineFor (table_of by.dtd.now) by.goal by.limit content
-        (script_file name (option_map (λ root. root.now) by.root)) line };
+        (listed (script_file_as by.list) name) line };
 
     fn answer<F: Files>(&self, alloc: Global, files: &mut F, name: &str) -> Result<Line, NoMemory> {
         let file = ScriptFile {
             name,
-            root: self.root,
+            root: self.list.root,
+            stubs: self.list.stubs,
         };
         match decide_by(alloc, file, self.dtd, self.goal, self.limit, files) {
             Ok(answer) => Ok(line_of(&answer)),

@@ -19,7 +19,7 @@ pub returns-in-Err-clause-leads : goal.returns-in-Err-clause-leads
 returns-in-Err-clause-leads g c =
     let counts = cause_grows
     (source_call (g.F.Files.content c.load_script.new.files) (g.F.Files.faults c.args.files.now) (g.F.Files.faults c.load_script.new.files) (g.F.Files.misses c.args.files.now) (g.F.Files.misses c.load_script.new.files) (g.F.Files.reads c.args.files.now) (g.F.Files.reads c.load_script.new.files))
-    (root_of (script_file_as c.args.file)) c.args.file.name.now c.in-Err.refusal c.in-Err.ensures.err in
+    (root_of (script_file_as c.args.file)) c.args.file.name.now (script_file_as c.args.file).stubs c.in-Err.refusal c.in-Err.ensures.err in
     record { stays = c.load_script.ensures.stays; faults = counts.0; misses = counts.1 }
 
 pub returns-clause-decides : goal.returns-clause-decides
@@ -29,7 +29,7 @@ returns-clause-decides g c =
     decided_by files (script_file_as c.args.file) (table_of c.args.dtd.now) c.args.goal c.args.limit (program_of c.in-Ok.program) c.decided.result
     (loaded_inside files (g.F.Files.content c.load_script.new.files) (script_file_as c.args.file) (program_of c.in-Ok.program)
     (stays_same (g.F.Files.content c.load_script.new.files) (g.F.Files.content c.load_script.new.files) refl) c.in-Ok.ensures.ok)
-    (misses_its_names files (g.F.Files.content c.load_script.new.files) (g.F.Files.faults c.load_script.new.files) (g.F.Files.misses c.load_script.new.files) (g.F.Files.reads c.load_script.new.files) (root_of (script_file_as c.args.file)) c.args.file.name.now
+    (misses_its_names files (g.F.Files.content c.load_script.new.files) (g.F.Files.faults c.load_script.new.files) (g.F.Files.misses c.load_script.new.files) (g.F.Files.reads c.load_script.new.files) (root_of (script_file_as c.args.file)) c.args.file.name.now (script_file_as c.args.file).stubs
     (program_of c.in-Ok.program) (stays_same (g.F.Files.content c.load_script.new.files) (g.F.Files.content c.load_script.new.files) refl) c.in-Ok.ensures.ok)
     c.in-Ok.ensures.ok.source.unfailed c.decided.ensures
 

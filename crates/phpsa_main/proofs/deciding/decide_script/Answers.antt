@@ -29,12 +29,12 @@ returns-in-Err-definition-clause-decides g c =
     (g.F.Files.content c.definition.new.files) (script_file_as c.args.file) (program_of c.in-Ok.program) c.definition.ensures.stays loaded)
     (misses_its_names
     (source_call (g.F.Files.content c.load_script.new.files) (g.F.Files.faults c.args.files.now) (g.F.Files.faults c.load_script.new.files) (g.F.Files.misses c.args.files.now) (g.F.Files.misses c.load_script.new.files) (g.F.Files.reads c.args.files.now) (g.F.Files.reads c.load_script.new.files))
-    (g.F.Files.content c.definition.new.files) (g.F.Files.faults c.definition.new.files) (g.F.Files.misses c.definition.new.files) (g.F.Files.reads c.definition.new.files) (root_of (script_file_as c.args.file)) c.args.file.name.now (program_of c.in-Ok.program) c.definition.ensures.stays loaded)
+    (g.F.Files.content c.definition.new.files) (g.F.Files.faults c.definition.new.files) (g.F.Files.misses c.definition.new.files) (g.F.Files.reads c.definition.new.files) (root_of (script_file_as c.args.file)) c.args.file.name.now (script_file_as c.args.file).stubs (program_of c.in-Ok.program) c.definition.ensures.stays loaded)
     (definition_cause (from_misses (g.F.Files.misses c.load_script.new.files) files) (type_of c.args.document_type) (g.F.Files.faults c.load_script.new.files) (g.F.Files.misses c.load_script.new.files)
     c.in-Err-definition.refusal loaded.source.unfailed refl c.in-Err-definition.ensures.err)
     (λ built_in. reads_its_files
     (source_call (g.F.Files.content c.load_script.new.files) (g.F.Files.faults c.args.files.now) (g.F.Files.faults c.load_script.new.files) (g.F.Files.misses c.args.files.now) (g.F.Files.misses c.load_script.new.files) (g.F.Files.reads c.args.files.now) (g.F.Files.reads c.load_script.new.files))
-    (g.F.Files.content c.definition.new.files) (g.F.Files.faults c.definition.new.files) (g.F.Files.misses c.definition.new.files) (g.F.Files.reads c.definition.new.files) (root_of (script_file_as c.args.file)) c.args.file.name.now (program_of c.in-Ok.program) c.definition.ensures.stays loaded
+    (g.F.Files.content c.definition.new.files) (g.F.Files.faults c.definition.new.files) (g.F.Files.misses c.definition.new.files) (g.F.Files.reads c.definition.new.files) (root_of (script_file_as c.args.file)) (script_file_as c.args.file) (program_of c.in-Ok.program) c.definition.ensures.stays loaded
     (c.definition.ensures.reads built_in))
     c.definition_refusal.ensures
 
@@ -50,10 +50,10 @@ returns-clause-decides g c =
     (g.F.Files.content c.definition.new.files) (script_file_as c.args.file) (program_of c.in-Ok.program) c.definition.ensures.stays loaded)
     (misses_its_names
     (source_call (g.F.Files.content c.load_script.new.files) (g.F.Files.faults c.args.files.now) (g.F.Files.faults c.load_script.new.files) (g.F.Files.misses c.args.files.now) (g.F.Files.misses c.load_script.new.files) (g.F.Files.reads c.args.files.now) (g.F.Files.reads c.load_script.new.files))
-    (g.F.Files.content c.definition.new.files) (g.F.Files.faults c.definition.new.files) (g.F.Files.misses c.definition.new.files) (g.F.Files.reads c.definition.new.files) (root_of (script_file_as c.args.file)) c.args.file.name.now (program_of c.in-Ok.program) c.definition.ensures.stays loaded)
+    (g.F.Files.content c.definition.new.files) (g.F.Files.faults c.definition.new.files) (g.F.Files.misses c.definition.new.files) (g.F.Files.reads c.definition.new.files) (root_of (script_file_as c.args.file)) c.args.file.name.now (script_file_as c.args.file).stubs (program_of c.in-Ok.program) c.definition.ensures.stays loaded)
     (λ built_in. reads_its_files
     (source_call (g.F.Files.content c.load_script.new.files) (g.F.Files.faults c.args.files.now) (g.F.Files.faults c.load_script.new.files) (g.F.Files.misses c.args.files.now) (g.F.Files.misses c.load_script.new.files) (g.F.Files.reads c.args.files.now) (g.F.Files.reads c.load_script.new.files))
-    (g.F.Files.content c.definition.new.files) (g.F.Files.faults c.definition.new.files) (g.F.Files.misses c.definition.new.files) (g.F.Files.reads c.definition.new.files) (root_of (script_file_as c.args.file)) c.args.file.name.now (program_of c.in-Ok.program) c.definition.ensures.stays loaded
+    (g.F.Files.content c.definition.new.files) (g.F.Files.faults c.definition.new.files) (g.F.Files.misses c.definition.new.files) (g.F.Files.reads c.definition.new.files) (root_of (script_file_as c.args.file)) (script_file_as c.args.file) (program_of c.in-Ok.program) c.definition.ensures.stays loaded
     (c.definition.ensures.reads built_in))
     (c.in-Ok-definition.ensures.calm.0 ∙ loaded.source.unfailed) c.decided.ensures
 
