@@ -51,3 +51,8 @@ ends_with_return = refl
 
 without_first : without_json (codes "--json" ∷ codes "--json" ∷ []) ≡ codes "--json" ∷ []
 without_first = refl
+
+-- so is that of the file of stubs
+a_file_of_stubs : asked_checks (codes "check" ∷ codes "--stubs" ∷ codes "env.php" ∷ codes "a" ∷ codes "b" ∷ [])
+    ≡ Some (record { options = codes "--stubs" ∷ codes "env.php" ∷ []; files = given (codes "a") ∷ given (codes "b") ∷ [] })
+a_file_of_stubs = refl

@@ -26,7 +26,8 @@ is_option (byte ∷ next ∷ bytes) = byte == 45
 
 -- the value of this option is the next word
 abbrev pub takes_next : List ℕ → Bool
-takes_next word = bytes_eq word (codes "--dtd") || bytes_eq word (codes "--limit") || bytes_eq word (codes "--root")
+takes_next word =
+    bytes_eq word (codes "--dtd") || bytes_eq word (codes "--limit") || bytes_eq word (codes "--root") || bytes_eq word (codes "--stubs")
 
 -- where a word stands that comes behind one which stands there
 abbrev pub place_behind : Place → List ℕ → Place

@@ -1,11 +1,11 @@
 //! The words that ask for `check` of files.
 
 ghost use Rattle.std.specs.Prelude.{◌≡◌, ◌++◌, ◌∷◌, [], IfOk, OnOk, if◌then◌else◌, map, option_map, string_bytes};
-ghost use Rattle.command_words.specs.Asked as asked;
 ghost use Rattle.several_files.specs.Words as spec;
 ghost use Rattle.several_files.specs.Views.{checks_as, file_as};
 
 use crate::checks::{AskedFile, Checks};
+use command_words::{ends_options, has_help};
 use std::alloc::Global;
 use text_base::NoMemory;
 
@@ -16,37 +16,6 @@ pub(crate) enum Place {
     Free,
     Value,
     Names,
-}
-
-/// Whether all words behind this one are names.
-fn ends_options(word: &str) -> bool
-    ensures { result ≡ asked.ends_options word.now }
-{
-    word == "--"
-}
-
-fn is_help(word: &str) -> bool
-    ensures { result ≡ asked.is_help word.now }
-{
-    word == "--help" || word == "-h"
-}
-
-/// Whether a word ahead of `--` asks for help.
-fn has_help(words: &[String]) -> bool
-    ensures { result ≡ asked.has_help (map string_bytes words.now) }
-{
-    let mut rest = words;
-    while let Some((word, others)) = rest.split_first() {
-        let word = word.as_str();
-        if ends_options(word) {
-            return false;
-        }
-        if is_help(word) {
-            return true;
-        }
-        rest = others;
-    }
-    false
 }
 
 /// Whether the word begins with `-`, and is not `-` alone.
@@ -64,7 +33,7 @@ fn is_option(word: &str) -> bool
 fn takes_next(word: &str) -> bool
     ensures { result ≡ spec.takes_next word.now }
 {
-    word == "--dtd" || word == "--limit" || word == "--root"
+    word == "--dtd" || word == "--limit" || word == "--root" || word == "--stubs"
 }
 
 /// Where the next word stands.
