@@ -7,9 +7,11 @@
 #![tactic(auto)]
 
 mod folders;
+mod progress;
 mod words;
 
 use crate::folders::with_folders;
+use crate::progress::{ClearSink, Progress, ToldFiles};
 use crate::words::{NoWords, words_of};
 use call_options::options_for;
 use io_edge::{DiskFiles, Sink, StdSink};
@@ -36,10 +38,20 @@ fn status_of(rt: &HostRuntime) -> Exit {
         Err(no_words) => return refuse_words(rt, no_words),
     };
     let alloc = rt.alloc();
-    let system = ReadOnce::new(alloc, DiskFiles::new(rt, rt.stdin()));
-    let mut files = CallFiles::new(alloc, system);
-    let mut out = StdSink::new(rt, rt.stdout());
-    let mut err = StdSink::new(rt, rt.stderr());
+    let progress = Progress::new(rt);
+    let told = ToldFiles {
+        inner: ReadOnce::new(alloc, DiskFiles::new(rt, rt.stdin())),
+        progress: &progress,
+    };
+    let mut files = CallFiles::new(alloc, told);
+    let mut out = ClearSink {
+        inner: StdSink::new(rt, rt.stdout()),
+        progress: &progress,
+    };
+    let mut err = ClearSink {
+        inner: StdSink::new(rt, rt.stderr()),
+        progress: &progress,
+    };
     if let Err(fault) = options_for(alloc, &mut words, &mut files) {
         return refuse(&options_refusal(alloc, &fault), &mut err);
     }
