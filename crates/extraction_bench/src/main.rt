@@ -106,7 +106,7 @@ fn source_of(alloc: Global, script: &str) -> Result<MemFiles, NoMemory> {
 // The program of a script, if it is one.
 fn program_of(alloc: Global, script: &str) -> Result<Option<Program>, NoMemory> {
     let mut source = source_of(alloc, script)?;
-    Ok(load(alloc, &mut source, ".", "t.php").ok())
+    Ok(load(alloc, &mut source, ".", "t.php", None).ok())
 }
 
 // The points of a script of so many statements.

@@ -21,7 +21,7 @@ pub fn script(alloc: Global, text: &str) -> Result<MemFiles, NoMemory> {
 
 /// The points of the script of a source.
 pub fn points_of(alloc: Global, source: &mut MemFiles) -> Option<FlowProgram> {
-    let program = load(alloc, source, ".", "t.php").ok()?;
+    let program = load(alloc, source, ".", "t.php", None).ok()?;
     lower(alloc, &program).ok()
 }
 

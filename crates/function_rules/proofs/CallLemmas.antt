@@ -1,18 +1,19 @@
 -- Calls that pass no test, and the first that passes one.
-use Rattle.std.proofs.Common.{◌≡◌, ◌∙◌, ◌<◌, ◌+◌, ℕ, zero, suc, Bool, true, false, cond, List, [], ◌∷◌, length, drop, get_or, Some, None, refl, sym, ap, subst, arith}
+use Rattle.std.proofs.Common.{◌≡◌, ◌∙◌, ◌<◌, ◌+◌, ℕ, zero, suc, Bool, true, false, cond, List, [], ◌∷◌, length, drop, get_or, ◌++◌, Some, None, Result, Err, IfErr, refl, sym, ap, subst, arith}
 use Rattle.std.specs.Prelude.{not}
 use Rattle.std.specs.List.{Contains, find}
 use Rattle.std.proofs.lemmas.List.{drop_more}
+use Rattle.php_syntax.specs.Trees.{PlainFunction}
 use Rattle.program_rules.specs.Calls.{PlainCall}
-use Rattle.program_rules.specs.Programs.{ReadFile, functions_in}
+use Rattle.program_rules.specs.Programs.{ReadFile}
 use Rattle.program_rules.specs.Rules.{is_known, serves_call}
 use Rattle.tree_walks.specs.declared.call.Call.{Call}
 use Rattle.tree_walks.specs.Seen.{plain_call, calls_seen}
 use Rattle.program_files.specs.declared.refusal.LoadRefusal.{LoadRefusal}
 use Rattle.program_files.specs.declared.refusal.LoadRefusal.TheVariants.{Missing, Outside, ReadFault, TooLong, Script, IncludeCycle, DoubleFunction, UnknownFunction, Arity, TooMany, Memory}
-use Rattle.include_expansion.specs.FileCalls.{calls_in_files}
-use Rattle.program_sizes.specs.FileRules.{AreOnce, AreKnown, AreServed}
-use Rattle.function_rules.specs.Causes.{NoneIs, IsFirst, is_unknown, is_misused, IsUnknownCause, IsArityCause, IsFunctionCause}
+use Rattle.function_rules.proofs.NameLemmas.{twice_later}
+use Rattle.program_sizes.specs.FileRules.{all_functions, all_calls, AreOnce, AreKnown, AreServed}
+use Rattle.function_rules.specs.Causes.{NoneIs, IsFirst, is_unknown, is_misused, IsDoubleCause, IsUnknownCause, IsArityCause, IsFunctionCause}
 
 seen_step : (calls : List Call) (i : ℕ) (call : Call) → i < length calls → call ≡ get_or calls i call → calls_seen (drop i calls) ≡ plain_call call ∷ calls_seen (drop (i + 1) calls)
 seen_step calls i call lt is = ap calls_seen (drop_more calls i call lt) ∙ ap (λ (c : Call). plain_call c ∷ calls_seen (drop (i + 1) calls)) (sym is)
@@ -45,37 +46,68 @@ none_passes test (d ∷ ds) none call c = by (test d) refl none c (λ n k. none_
     by false e n (zero, lt, is) rest = ap test (sym is) ∙ e
     by false e n (suc i, lt, is) rest = rest n (i, omega arith, is)
 
-pub all_known : (files : List ReadFile) (calls : List PlainCall) → calls ≡ calls_in_files files → NoneIs (is_unknown (functions_in files)) calls → AreKnown files
-all_known files calls same none call c =
-    back (is_known (functions_in files) call) (none_passes (is_unknown (functions_in files)) calls none call (subst (λ (cs : List PlainCall). Contains cs call) (sym same) c))
+pub all_known : (files : List ReadFile) (stubs : List PlainFunction) (calls : List PlainCall) → calls ≡ all_calls files stubs → NoneIs (is_unknown (all_functions files stubs)) calls → AreKnown files stubs
+all_known files stubs calls same none call c =
+    back (is_known (all_functions files stubs) call) (none_passes (is_unknown (all_functions files stubs)) calls none call (subst (λ (cs : List PlainCall). Contains cs call) (sym same) c))
 
-pub all_served : (files : List ReadFile) (calls : List PlainCall) → calls ≡ calls_in_files files → NoneIs (is_misused (functions_in files)) calls → AreServed files
-all_served files calls same none call c =
-    back (serves_call (functions_in files) call) (none_passes (is_misused (functions_in files)) calls none call (subst (λ (cs : List PlainCall). Contains cs call) (sym same) c))
+pub all_served : (files : List ReadFile) (stubs : List PlainFunction) (calls : List PlainCall) → calls ≡ all_calls files stubs → NoneIs (is_misused (all_functions files stubs)) calls → AreServed files stubs
+all_served files stubs calls same none call c =
+    back (serves_call (all_functions files stubs) call) (none_passes (is_misused (all_functions files stubs)) calls none call (subst (λ (cs : List PlainCall). Contains cs call) (sym same) c))
 
 -- the causes
-pub unknown_so : (files : List ReadFile) (calls : List PlainCall) → calls ≡ calls_in_files files → AreOnce files → (refusal : LoadRefusal) → IsUnknownCause (functions_in files) calls refusal → IsFunctionCause files refusal
-unknown_so files calls same once (Missing name) cause = cause
-unknown_so files calls same once (Outside name) cause = cause
-unknown_so files calls same once (ReadFault name) cause = cause
-unknown_so files calls same once (TooLong name len) cause = cause
-unknown_so files calls same once (Script name fault) cause = cause
-unknown_so files calls same once (IncludeCycle name) cause = cause
-unknown_so files calls same once (DoubleFunction name) cause = absurd cause
-unknown_so files calls same once (UnknownFunction name) cause = (once, subst (λ (cs : List PlainCall). IsFirst (is_unknown (functions_in files)) cs name) same cause)
-unknown_so files calls same once (Arity name) cause = absurd cause
-unknown_so files calls same once (TooMany count) cause = cause
-unknown_so files calls same once Memory cause = cause
+pub unknown_so : (files : List ReadFile) (stubs : List PlainFunction) (calls : List PlainCall) → calls ≡ all_calls files stubs → AreOnce files stubs → (refusal : LoadRefusal) → IsUnknownCause (all_functions files stubs) calls refusal → IsFunctionCause files stubs refusal
+unknown_so files stubs calls same once (Missing name) cause = cause
+unknown_so files stubs calls same once (Outside name) cause = cause
+unknown_so files stubs calls same once (ReadFault name) cause = cause
+unknown_so files stubs calls same once (TooLong name len) cause = cause
+unknown_so files stubs calls same once (Script name fault) cause = cause
+unknown_so files stubs calls same once (IncludeCycle name) cause = cause
+unknown_so files stubs calls same once (DoubleFunction name) cause = absurd cause
+unknown_so files stubs calls same once (UnknownFunction name) cause = (once, subst (λ (cs : List PlainCall). IsFirst (is_unknown (all_functions files stubs)) cs name) same cause)
+unknown_so files stubs calls same once (Arity name) cause = absurd cause
+unknown_so files stubs calls same once (TooMany count) cause = cause
+unknown_so files stubs calls same once Memory cause = cause
 
-pub arity_so : (files : List ReadFile) (calls : List PlainCall) → calls ≡ calls_in_files files → AreOnce files → AreKnown files → (refusal : LoadRefusal) → IsArityCause (functions_in files) calls refusal → IsFunctionCause files refusal
-arity_so files calls same once known (Missing name) cause = cause
-arity_so files calls same once known (Outside name) cause = cause
-arity_so files calls same once known (ReadFault name) cause = cause
-arity_so files calls same once known (TooLong name len) cause = cause
-arity_so files calls same once known (Script name fault) cause = cause
-arity_so files calls same once known (IncludeCycle name) cause = cause
-arity_so files calls same once known (DoubleFunction name) cause = absurd cause
-arity_so files calls same once known (UnknownFunction name) cause = absurd cause
-arity_so files calls same once known (Arity name) cause = (once, known, subst (λ (cs : List PlainCall). IsFirst (is_misused (functions_in files)) cs name) same cause)
-arity_so files calls same once known (TooMany count) cause = cause
-arity_so files calls same once known Memory cause = cause
+pub arity_so : (files : List ReadFile) (stubs : List PlainFunction) (calls : List PlainCall) → calls ≡ all_calls files stubs → AreOnce files stubs → AreKnown files stubs → (refusal : LoadRefusal) → IsArityCause (all_functions files stubs) calls refusal → IsFunctionCause files stubs refusal
+arity_so files stubs calls same once known (Missing name) cause = cause
+arity_so files stubs calls same once known (Outside name) cause = cause
+arity_so files stubs calls same once known (ReadFault name) cause = cause
+arity_so files stubs calls same once known (TooLong name len) cause = cause
+arity_so files stubs calls same once known (Script name fault) cause = cause
+arity_so files stubs calls same once known (IncludeCycle name) cause = cause
+arity_so files stubs calls same once known (DoubleFunction name) cause = absurd cause
+arity_so files stubs calls same once known (UnknownFunction name) cause = absurd cause
+arity_so files stubs calls same once known (Arity name) cause = (once, known, subst (λ (cs : List PlainCall). IsFirst (is_misused (all_functions files stubs)) cs name) same cause)
+arity_so files stubs calls same once known (TooMany count) cause = cause
+arity_so files stubs calls same once known Memory cause = cause
+
+pub double_so : (files : List ReadFile) (stubs : List PlainFunction) (refusal : LoadRefusal) → IsDoubleCause (all_functions files stubs) refusal → IsFunctionCause files stubs refusal
+double_so files stubs (Missing name) cause = cause
+double_so files stubs (Outside name) cause = cause
+double_so files stubs (ReadFault name) cause = cause
+double_so files stubs (TooLong name len) cause = cause
+double_so files stubs (Script name fault) cause = cause
+double_so files stubs (IncludeCycle name) cause = cause
+double_so files stubs (DoubleFunction name) cause = cause
+double_so files stubs (UnknownFunction name) cause = absurd cause
+double_so files stubs (Arity name) cause = absurd cause
+double_so files stubs (TooMany count) cause = cause
+double_so files stubs Memory cause = cause
+
+-- what is refused of some functions is, with more behind them
+pub double_later : (own more : List PlainFunction) (refusal : LoadRefusal) → IsDoubleCause own refusal → IsDoubleCause (own ++ more) refusal
+double_later own more (Missing name) cause = cause
+double_later own more (Outside name) cause = cause
+double_later own more (ReadFault name) cause = cause
+double_later own more (TooLong name len) cause = cause
+double_later own more (Script name fault) cause = cause
+double_later own more (IncludeCycle name) cause = cause
+double_later own more (DoubleFunction name) cause = twice_later own more name cause
+double_later own more (UnknownFunction name) cause = cause
+double_later own more (Arity name) cause = cause
+double_later own more (TooMany count) cause = cause
+double_later own more Memory cause = cause
+
+-- a refusal that is handed on has its cause
+pub handed_on : {A : Type 0} (files : List ReadFile) (stubs : List PlainFunction) (r : Result A LoadRefusal) (refusal : LoadRefusal) → r ≡ Err refusal → IsFunctionCause files stubs refusal → IfErr r (IsFunctionCause files stubs)
+handed_on {A} files stubs r refusal is cause = subst (λ (x : Result A LoadRefusal). IfErr x (IsFunctionCause files stubs)) (sym is) cause

@@ -1,6 +1,6 @@
 -- Names that are defined twice, and functions found by their names, where a function is put behind others.
 use Rattle.std.proofs.Common.{◌≡◌, ◌∙◌, ℕ, Bool, true, false, nat_eq, List, [], ◌∷◌, ◌++◌, Option, Some, None, if◌then◌else◌, inl, inr, refl, sym, ap, true≢false}
-use Rattle.std.specs.Prelude.{◌⊎◌, ◌||◌, bytes_eq}
+use Rattle.std.specs.Prelude.{◌⊎◌, ◌||◌, ◌&&◌, not, bytes_eq}
 use Rattle.std.specs.List.{list_any}
 use Rattle.std.specs.Cmp.Lexicographic.{pointwise, bytes_decides}
 use Rattle.std.proofs.lemmas.List.Folds.{list_any-append}
@@ -101,3 +101,35 @@ again_twice (g ∷ done) rest f e = by (pointwise nat_eq g.name_of f.name_of) re
         list_any-append p done (f ∷ rest) ∙ ap (λ (b : Bool). list_any p done || (b || list_any p rest)) ((bytes_decides f.name_of f.name_of).1 refl) in
         inl ((bytes_decides g.name_of f.name_of).0 same, ap (λ (b : Bool). is_there (builtin_named f.name_of) || b) last ∙ or_last (is_there (builtin_named f.name_of)) (list_any p done) (list_any p rest))
     by false other h later = inr (later h)
+
+or_kept : (a l r : Bool) → (a || l) ≡ true → (a || (l || r)) ≡ true
+or_kept true l r e = refl
+or_kept false true r e = refl
+or_kept false false r e = absurd (true≢false (sym e))
+
+-- and what is defined twice is, with more functions behind
+pub twice_later : (own more : List PlainFunction) (name : List ℕ) → DefinesTwice own name → DefinesTwice (own ++ more) name
+unfolding DefinesTwice
+twice_later [] more name twice = absurd twice
+twice_later (f ∷ fs) more name (inl (same, double)) =
+    let p : PlainFunction → Bool = λ h. bytes_eq h.name_of name in
+    inl (same, ap (λ (b : Bool). is_there (builtin_named name) || b) (list_any-append p fs more) ∙ or_kept (is_there (builtin_named name)) (list_any p fs) (list_any p more) double)
+twice_later (f ∷ fs) more name (inr later) = inr (twice_later fs more name later)
+
+named_any : (own : List PlainFunction) (name : List ℕ) → is_there (function_named own name) ≡ list_any (λ (f : PlainFunction). bytes_eq f.name_of name) own
+unfolding function_named
+named_any [] name = refl
+named_any (f ∷ fs) name = by (pointwise nat_eq f.name_of name) (named_any fs name)
+  where
+    by : (b : Bool) → is_there (function_named fs name) ≡ list_any (λ (g : PlainFunction). bytes_eq g.name_of name) fs
+        → is_there (if b then Some f else function_named fs name) ≡ (b || list_any (λ (g : PlainFunction). bytes_eq g.name_of name) fs)
+    by true rest = refl
+    by false rest = rest
+
+-- a name is that of no function, nor of one of PHP's, by what is found of it
+pub is_new : (own : List PlainFunction) (name : List ℕ) → not (is_there (builtin_named name)) && not (is_there (function_named own name)) ≡ not (is_double name own)
+is_new own name = both (is_there (builtin_named name)) (is_there (function_named own name)) (list_any (λ (f : PlainFunction). bytes_eq f.name_of name) own) (named_any own name)
+  where
+    both : (a b d : Bool) → b ≡ d → (not a && not b) ≡ not (a || d)
+    both true b d e = refl
+    both false b d e = ap not e

@@ -123,3 +123,12 @@ pub tree_there : (files : List ReadFile) (place : ℕ) → place < length files 
 tree_there [] place lt e = omega arith
 tree_there (f ∷ fs) zero lt e = cc
 tree_there (f ∷ fs) (suc k) lt e = tree_there fs k (omega arith) e
+
+-- where all are put, more may be put behind them
+pub put_behind : {S : Type 0} (rows : IndexMap (List ℕ) Numbers S) (own more : List PlainFunction) → HasPut rows [] own → HasPut rows (more ++ []) (own ++ more)
+put_behind rows own more has = record {
+  done = has.done;
+  split = ap (λ (fs : List PlainFunction). has.done ++ fs) (append-nil more) ∙ ap (λ (fs : List PlainFunction). fs ++ more) (put_all_of rows own has);
+  table = has.table;
+  once = has.once;
+}

@@ -21,7 +21,7 @@ pub fn script(alloc: Global, text: &str) -> Result<MemFiles, NoMemory> {
 
 // The program of a source.
 fn loaded(alloc: Global, source: &mut MemFiles) -> Option<Program> {
-    load(alloc, source, ".", "t.php").ok()
+    load(alloc, source, ".", "t.php", None).ok()
 }
 
 // The points of a program.

@@ -1,6 +1,7 @@
 pub mod Pairs
 pub mod IncludeLemmas
 pub mod ScriptLemmas
+pub mod StubLemmas
 pub mod Utf8Paths
 pub mod NameLemmas
 pub mod ReachedLemmas

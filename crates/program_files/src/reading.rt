@@ -1,7 +1,7 @@
 //! The files of a program, one after another.
 
 ghost use Rattle.std.specs.Prelude.{◌≡◌, [], ℕ, List, IfOk, IfErr};
-ghost use Rattle.io_edge.specs.Told.{Stays};
+ghost use Rattle.io_edge.specs.Told.{Content, Stays};
 ghost use Rattle.io_edge.specs.Names.{normal};
 ghost use Rattle.program_files.specs.View.{files_of};
 ghost use Rattle.program_files.specs.Source.{source_call};
@@ -23,8 +23,9 @@ use text_base::{Bytes, Stack};
 /// The name is taken in its normal form. The name of an include is first taken from the folder of
 /// the program's file, and where there is no such file, and it begins with neither `./` nor `../`,
 /// from the folder of the file that names it. The file of the name may be of any kind, the others
-/// are regular ones. In the trees each include has its found name. Takes time linear in the files
-/// and in the names of their includes.
+/// are regular ones. In the trees each include has its found name. That all is read holds whatever
+/// else the source comes to tell later. Takes time linear in the files and in the names of their
+/// includes.
 ///
 /// # Errors
 ///
@@ -39,8 +40,8 @@ pub fn read_files<F: Files>(
     name: &str,
 ) -> Result<ScriptFiles, LoadRefusal>
     ensures ok { IfOk result
-        (λ files. ReadsAll (source_call (F.content source.new) (F.faults source.old)
-        (F.faults source.new)
+        (λ files. (later : Content) → Stays (F.content source.new) later → ReadsAll
+        (source_call later (F.faults source.old) (F.faults source.new)
         (F.misses source.old) (F.misses source.new) (F.reads source.old) (F.reads source.new))
         root.now name.now (files_of files)) }
     ensures err { IfErr result

@@ -11,6 +11,7 @@ use php_lexer::{LexRefusal, lex};
 use php_parser::{ParseRefusal, parse};
 use php_syntax::tree::FileTree;
 use std::alloc::Global;
+use text_base::NoMemory;
 
 // Why a script has no tree here.
 #[derive(Clone, Copy, Debug)]
@@ -38,6 +39,17 @@ impl From<ParseRefusal> for Unread {
             ParseRefusal::Memory => Unread::Memory,
             _ => Unread::Script(ScriptRefusal::Parse(refusal)),
         }
+    }
+}
+
+impl From<NoMemory> for Unread {
+    ghost use Rattle.std.specs.Prelude.{◌≡◌};
+    ghost use Rattle.program_files.specs.declared.tree.Unread.TheVariants.{Memory};
+
+    ghost from_gives = { λ _ unread. unread ≡ Memory };
+
+    fn from(_: NoMemory) -> Self {
+        Unread::Memory
     }
 }
 

@@ -226,7 +226,7 @@ rules : KeepsRules program
 unfolding calls_of_program DefinesTwice
 rules = record { once = λ path twice. twice; known = λ call own. absurd (no_member call own); served = λ call own. absurd (no_member call own) }
 
-is_program : Premises → IsProgram held (codes "t.php") program
+is_program : Premises → IsProgram held (codes "t.php") [] program
 unfolding functions_in stmts_nodes stmts_height
 is_program ps = record {
   files = files;
@@ -235,7 +235,9 @@ is_program ps = record {
   tree = outer_tree;
   spelled = has_outer ps.outer_within;
   main = main_stands ps;
-  functions = programs.none;
+  own = [];
+  stand = programs.none;
+  functions = refl;
   rules = rules;
   own_places = 1;
   has_places = main_places ps;
@@ -254,12 +256,15 @@ not_gone path (inl outside) gone = let same : Some outer ≡ None = sym (ap byte
 not_gone path (inr inside) gone = let same : Some inner ≡ None = sym (ap bytes_at inside) ∙ gone in cc
 
 -- the source holds it, in files within their limit
-pub holds : Premises → HoldsProgram content (codes "t.php") program
+pub holds : Premises → HoldsProgram content (codes "t.php") None program
 unfolding functions_in calls_of_program DefinesTwice is_program calls_in_files normal normal_parts
 holds ps = record {
   held = held;
   main = refl;
   told = λ path asks. refl;
+  told_stubs = tt;
+  functions = [];
+  has_stubs = refl;
   is_program = record { is_program = is_program ps; in_order = in_order ps };
   few = lit≤ tt;
   missed = [];

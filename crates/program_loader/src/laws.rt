@@ -8,8 +8,6 @@ ghost use Rattle.program_rules.specs.Programs.{ReadFile};
 ghost use Rattle.program_files.specs.declared.refusal.LoadRefusal.{LoadRefusal};
 ghost use Rattle.program_files.specs.Source.{SourceCall};
 ghost use Rattle.program_files.specs.Causes.{ReadsAll, IsReadCause};
-ghost use Rattle.program_files.specs.Stubs.{ReadsStubs};
-ghost use Rattle.program_sizes.specs.Loaded.{AreStubs};
 ghost use Rattle.program_loader.specs.Causes.{Loads, IsLoadCause};
 ghost use Rattle.program_loader.specs.Making.{AreReady, Make, IsMakeCause, ReadBoth, ReadFirst};
 
@@ -23,8 +21,6 @@ use program_sizes::{
 pub fn what_is_made_is_loaded()
     ensures ready { (call : SourceCall) (root name : List ℕ) (files : List ReadFile)
         → ReadsAll call root name files → AreReady files (normal name) }
-    ensures stubs { (call : SourceCall) (stubs : Option (List ℕ)) (functions : List PlainFunction)
-        → ReadsStubs call stubs functions → AreStubs functions }
     ensures ok { (call : SourceCall) (root name : List ℕ) (stubs : Option (List ℕ))
         (files : List ReadFile) (functions : List PlainFunction) (program : PlainProgram)
         → ReadBoth call root name stubs files functions

@@ -1,17 +1,18 @@
 -- The program that files make keeps what every program in memory keeps.
-use Rattle.std.proofs.Common.{◌≡◌, ◌∙◌, ℕ, zero, suc, Bool, true, false, if◌then◌else◌, List, [], ◌∷◌, ◌++◌, length, map, Some, None, Option, option_map, refl, sym, ap, subst, arith, inl, inr}
-use Rattle.std.specs.Prelude.{◌&&◌, ◌||◌, bytes_eq, nat_eq}
+use Rattle.std.proofs.Common.{◌≡◌, ◌∙◌, ℕ, zero, suc, Bool, true, false, if◌then◌else◌, List, [], ◌∷◌, ◌++◌, length, map, Some, None, Option, option_map, refl, sym, ap, subst, arith, inl, inr, append_assoc}
+use Rattle.std.specs.Prelude.{◌⊎◌, ◌&&◌, ◌||◌, bytes_eq, nat_eq}
 use Rattle.std.specs.List.{Contains, list_any}
 use Rattle.std.specs.Cmp.Lexicographic.{pointwise}
-use Rattle.std.proofs.lemmas.List.{map-append}
-use Rattle.std.proofs.lemmas.List.Elements.{Contains-append_right}
+use Rattle.std.proofs.lemmas.List.{map-append, append-nil}
+use Rattle.std.proofs.lemmas.List.Elements.{Contains-append_cases, Contains-append_left, Contains-append_right}
 use Rattle.php_syntax.specs.Trees.{PlainStmts, PlainFunction, PlainFile}
 use Rattle.script_grammar.specs.Rules.{stmts_fit, params_fit, functions_fit, file_fits}
 use Rattle.spellable.specs.Spellable.{is_call_name, params_spellable, stmts_spellable, functions_spellable, is_spellable}
 use Rattle.builtin_meaning.specs.declared.builtin.Builtin.{Builtin}
 use Rattle.builtin_meaning.specs.Names.{builtin_named}
 use Rattle.script_meaning.specs.Programs.{PlainProgram, function_named}
-use Rattle.program_rules.specs.Calls.{PlainCall, calls_of_program}
+use Rattle.program_expressions.specs.Collected.{bodies_collected}
+use Rattle.program_rules.specs.Calls.{PlainCall, statement_calls, function_calls, calls_of_program}
 use Rattle.program_rules.specs.Includes.{includes_in, includes_in_functions, includes_of_file}
 use Rattle.program_rules.specs.Bodies.{with_bodies, with_body, file_with_bodies, include_of}
 use Rattle.program_rules.proofs.PathLemmas.{twice, renamed}
@@ -21,21 +22,10 @@ use Rattle.program_rules.specs.Rules.{is_there, DefinesTwice, serves, serves_bui
 use Rattle.program_rules.specs.Lawful.{IsLawful}
 use Rattle.include_expansion.specs.Within.{tree_named, bodies_within, program_within}
 use Rattle.include_expansion.specs.FileCalls.{calls_in_files}
-use Rattle.program_sizes.specs.FileRules.{KeepFunctionRules}
+use Rattle.program_sizes.specs.FileRules.{all_functions, all_calls, KeepFunctionRules}
 use Rattle.program_sizes.specs.Limits.{program_places}
-use Rattle.program_sizes.specs.Loaded.{IsOfScript, AreScripts, MakeProgram}
-
-left : (a b : Bool) → (a && b) ≡ true → a ≡ true
-left true b e = refl
-left false b e = absurd (cc)
-
-right : (a b : Bool) → (a && b) ≡ true → b ≡ true
-right true b e = e
-right false b e = absurd (cc)
-
-both : (a b : Bool) → a ≡ true → b ≡ true → (a && b) ≡ true
-both true b e f = f
-both false b e f = absurd (cc)
+use Rattle.program_sizes.specs.Loaded.{IsOfScript, AreScripts, AreStubs, with_stubs, MakeProgram}
+use Rattle.program_sizes.proofs.StubLemmas.{left, right, both, functions_include, stubs_as_they_are}
 
 -- names and parameters stay
 same_names : (bodies : List ℕ → PlainStmts) (fs : List PlainFunction) (name : List ℕ) → list_any (λ (f : PlainFunction). bytes_eq f.name_of name) (map (with_body bodies) fs) ≡ list_any (λ (f : PlainFunction). bytes_eq f.name_of name) fs
@@ -88,12 +78,41 @@ same_served bodies fs call = by (builtin_named call.name_of) refl (function_name
 abbrev pub CallsAreInFiles : Type 0
 CallsAreInFiles = (files : List ReadFile) (n : ℕ) (name : List ℕ) (call : PlainCall) → Contains (calls_of_program (program_within files n (tree_named files name))) call → Contains (calls_in_files files) call
 
-pub rules_kept : CallsAreInFiles → (files : List ReadFile) (n : ℕ) (name : List ℕ) → KeepFunctionRules files → KeepsRules (program_within files n (tree_named files name))
-rules_kept calls files n name rules = record {
-  once = λ x double. rules.once x (still_once (bodies_within files n) (functions_in files) x double);
-  known = λ call c. same_known (bodies_within files n) (functions_in files) call ∙ rules.known call (calls files n name call c);
-  served = λ call c. same_served (bodies_within files n) (functions_in files) call ∙ rules.served call (calls files n name call c);
-}
+-- the calls of functions in a row
+calls_in_row : (a b : List PlainFunction) → function_calls (a ++ b) ≡ function_calls a ++ function_calls b
+unfolding bodies_collected
+calls_in_row [] b = refl
+calls_in_row (f ∷ fs) b = ap (λ (cs : List PlainCall). statement_calls f.body_of ++ cs) (calls_in_row fs b) ∙ sym (append_assoc (statement_calls f.body_of) (function_calls fs) (function_calls b))
+
+-- each call of a program with stubs is one of the program, or stands in a stub
+call_cases : (stubs : List PlainFunction) (program : PlainProgram) (call : PlainCall) → Contains (calls_of_program (with_stubs stubs program)) call
+    → Contains (calls_of_program program) call ⊎ Contains (function_calls stubs) call
+unfolding calls_of_program
+call_cases stubs program call c = elim (Contains-append_cases (statement_calls program.main_of) (function_calls (program.functions_of ++ stubs)) call c) [
+  | inl main ↦ inl (Contains-append_left (statement_calls program.main_of) (function_calls program.functions_of) call main)
+  | inr rest ↦ elim (Contains-append_cases (function_calls program.functions_of) (function_calls stubs) call (subst (λ (cs : List PlainCall). Contains cs call) (calls_in_row program.functions_of stubs) rest)) [
+    | inl own ↦ inl (Contains-append_right (statement_calls program.main_of) (function_calls program.functions_of) call own)
+    | inr stub ↦ inr stub
+  ]
+]
+
+call_there : CallsAreInFiles → (files : List ReadFile) (stubs : List PlainFunction) (n : ℕ) (name : List ℕ) (call : PlainCall) → Contains (calls_of_program (with_stubs stubs (program_within files n (tree_named files name)))) call
+    → Contains (all_calls files stubs) call
+call_there calls files stubs n name call c = elim (call_cases stubs (program_within files n (tree_named files name)) call c) [
+  | inl own ↦ Contains-append_left (calls_in_files files) (function_calls stubs) call (calls files n name call own)
+  | inr stub ↦ Contains-append_right (calls_in_files files) (function_calls stubs) call stub
+]
+
+pub rules_kept : CallsAreInFiles → (files : List ReadFile) (stubs : List PlainFunction) (n : ℕ) (name : List ℕ) → includes_in_functions stubs ≡ [] → KeepFunctionRules files stubs
+    → KeepsRules (with_stubs stubs (program_within files n (tree_named files name)))
+rules_kept calls files stubs n name none rules =
+    let b : List ℕ → PlainStmts = bodies_within files n in
+    let all = all_functions files stubs in
+    let e : map (with_body b) (functions_in files) ++ stubs ≡ map (with_body b) all = stubs_as_they_are b (functions_in files) stubs none in record {
+      once = λ x double. rules.once x (still_once b all x (subst (λ (fs : List PlainFunction). DefinesTwice fs x) e double));
+      known = λ call c. ap (λ (fs : List PlainFunction). is_known fs call) e ∙ same_known b all call ∙ rules.known call (call_there calls files stubs n name call c);
+      served = λ call c. ap (λ (fs : List PlainFunction). serves_call fs call) e ∙ same_served b all call ∙ rules.served call (call_there calls files stubs n name call c);
+    }
 
 -- the forms of the grammar
 abbrev pub FormsAreKept : Type 0
@@ -264,15 +283,35 @@ no_member : (xs : List (List ℕ)) (path : List ℕ) → xs ≡ [] → Contains 
 no_member [] path e c = let h = c.1 in omega arith
 no_member (x ∷ xs) path e c = absurd (cc)
 
-pub lawful : CallsAreInFiles → RulesAreKept → FormsAreKept → NoneIsLeft → (files : List ReadFile) (order : List (List ℕ)) (name : List ℕ) (program : PlainProgram) → AreScripts files → MakeProgram files order name program → IsLawful program
-lawful calls rules forms none files order name program are made =
+-- with stubs behind its functions a program has the forms, and fits, and includes nothing more
+stubbed_forms : (stubs : List PlainFunction) (program : PlainProgram) → functions_spellable stubs ≡ true → is_spellable (as_file program) ≡ true → is_spellable (as_file (with_stubs stubs program)) ≡ true
+stubbed_forms stubs program more e =
+    let body = stmts_spellable program.main_of in
+    let own = functions_spellable program.functions_of in
+    both body (functions_spellable (program.functions_of ++ stubs)) (left body own e) (append_spellable program.functions_of stubs (right body own e) more)
+
+stubbed_fits : (stubs : List PlainFunction) (program : PlainProgram) → functions_fit stubs ≡ true → file_fits (as_file program) ≡ true → file_fits (as_file (with_stubs stubs program)) ≡ true
+stubbed_fits stubs program more e =
+    let body = stmts_fit false false program.main_of in
+    let own = functions_fit program.functions_of in
+    both body (functions_fit (program.functions_of ++ stubs)) (left body own e) (append_fits program.functions_of stubs (right body own e) more)
+
+stubbed_none : (stubs : List PlainFunction) (program : PlainProgram) → includes_in_functions stubs ≡ [] → includes_of_file (as_file program) ≡ [] → includes_of_file (as_file (with_stubs stubs program)) ≡ []
+unfolding includes_of_file
+stubbed_none stubs program none e =
+    ap (λ (xs : List (List ℕ)). includes_in program.main_of ++ xs) (functions_include program.functions_of stubs ∙ ap (λ (xs : List (List ℕ)). includes_in_functions program.functions_of ++ xs) none ∙ append-nil (includes_in_functions program.functions_of)) ∙ e
+
+pub lawful : CallsAreInFiles → RulesAreKept → FormsAreKept → NoneIsLeft → (files : List ReadFile) (stubs : List PlainFunction) (order : List (List ℕ)) (name : List ℕ) (program : PlainProgram) → AreScripts files → AreStubs stubs
+    → MakeProgram files stubs order name program → IsLawful program
+lawful calls rules forms none files stubs order name program are more made =
     let n = length order in
+    let own : PlainProgram = program_within files n (tree_named files name) in
     let within = made.within in
     subst IsLawful (sym made.program_is) (record {
-      whole = λ path c. no_member (includes_of_file (as_file (program_within files n (tree_named files name)))) path (none_in_file none files n name) c;
-      of_grammar = forms_kept forms files n name are;
-      fits = fits_kept rules files n name are;
-      rules = rules_kept calls files n name made.rules;
+      whole = λ path c. no_member (includes_of_file (as_file (with_stubs stubs own))) path (stubbed_none stubs own more.whole (none_in_file none files n name)) c;
+      of_grammar = stubbed_forms stubs own more.spellable (forms_kept forms files n name are);
+      fits = stubbed_fits stubs own more.fit (fits_kept rules files n name are);
+      rules = rules_kept calls files stubs n name more.whole made.rules;
       nodes_within = (subst (λ (p : PlainProgram). IsWithin (program_places files n (tree_named files name)) p) made.program_is within).nodes_within;
       height_within = (subst (λ (p : PlainProgram). IsWithin (program_places files n (tree_named files name)) p) made.program_is within).height_within;
     })

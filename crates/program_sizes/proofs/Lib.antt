@@ -5,3 +5,4 @@ pub mod BodyLemmas
 pub mod TableLemmas
 pub mod LawfulLemmas
 pub mod ProgramLemmas
+pub mod StubLemmas

@@ -1,5 +1,5 @@
 -- The program that files make is that of the name.
-use Rattle.std.proofs.Common.{◌≡◌, ◌∙◌, ℕ, zero, suc, true, List, [], ◌∷◌, length, map, take, Some, slice_get, refl, sym, ap, subst, arith}
+use Rattle.std.proofs.Common.{◌≡◌, ◌∙◌, ℕ, zero, suc, true, List, [], ◌∷◌, ◌++◌, length, map, take, Some, slice_get, refl, sym, ap, subst, arith}
 use Rattle.std.specs.List.{Contains}
 use Rattle.std.proofs.lemmas.List.Elements.{Contains-append_left, Contains-append_right}
 use Rattle.std.proofs.lemmas.Option.{same_Some}
@@ -14,7 +14,8 @@ use Rattle.program_rules.specs.Bodies.{with_bodies, with_body}
 use Rattle.program_rules.specs.Expansion.{StandsFor}
 use Rattle.program_rules.specs.Limits.{one_each, HasPlaces, HavePlaces, IsWithin}
 use Rattle.program_rules.specs.Limits as limits
-use Rattle.program_rules.specs.Programs.{ReadFile, AreRead, functions_in, TableStandsFor, HasNoCycle, IsProgram}
+use Rattle.program_rules.specs.Programs.{ReadFile, AreRead, functions_in, TableStandsFor, taken, HasNoCycle, IsProgram}
+use Rattle.program_rules.specs.Rules.{KeepsRules}
 use Rattle.program_rules.specs.Programs as programs
 use Rattle.program_files.specs.Order.{is_read, Reached}
 use Rattle.include_expansion.specs.Within.{tree_named, bodies_within, places_within, program_within, IsIncludeOrder, AreHeld}
@@ -23,8 +24,9 @@ use Rattle.include_expansion.proofs.PlaceLemmas.{place_there, file_there, tree_t
 use Rattle.spellable.proofs.BackFiles.{spelled_is_spellable}
 use Rattle.program_sizes.specs.Limits.{function_places, program_places}
 use Rattle.program_sizes.proofs.TableLemmas.{function_includes, all_first}
-use Rattle.program_sizes.specs.Loaded.{AreScripts, MakeProgram, StandsForProgram}
+use Rattle.program_sizes.specs.Loaded.{AreScripts, AreStubs, with_stubs, MakeProgram, StandsForProgram}
 use Rattle.program_sizes.proofs.LawfulLemmas.{CallsAreInFiles, rules_kept}
+use Rattle.program_sizes.proofs.StubLemmas.{same_taken, taken_are_stubs}
 
 abbrev pub OneTokenList : Type 0
 OneTokenList = (file : List ℕ) (tokens others : List PlainToken) → Cuts file tokens → Cuts file others → tokens ≡ others
@@ -118,10 +120,10 @@ pub is_acyclic : NoneIncludesItself → (held : Held) (files : List ReadFile) (o
 is_acyclic circles held files order name one read sorted path reads circle =
     circles held files order path one sorted (are_held held name files read) (sorted.all path (path_read held name files read path reads)) circle
 
--- the file of the name stands for the program that they make
-pub stands_for_program : TheyStandFor → TheyHavePlaces → (held : Held) (files : List ReadFile) (order : List (List ℕ)) (name : List ℕ) → AreRead held name files → IsIncludeOrder files order
-    → StandsForProgram held name files (program_places files (length order) (tree_named files name)) (program_within files (length order) (tree_named files name))
-stands_for_program stand places held files order name read sorted =
+-- the file of the name stands for the program that they make, with any stubs
+pub stands_for_program : TheyStandFor → TheyHavePlaces → (held : Held) (files : List ReadFile) (order : List (List ℕ)) (name : List ℕ) (stubs : List PlainFunction) → AreRead held name files → IsIncludeOrder files order
+    → StandsForProgram held name files stubs (program_places files (length order) (tree_named files name)) (with_stubs stubs (program_within files (length order) (tree_named files name)))
+stands_for_program stand places held files order name stubs read sorted =
     let n = length order in
     let has = are_held held name files read in
     let tree = tree_named files name in
@@ -134,7 +136,9 @@ stands_for_program stand places held files order name read sorted =
       tree = tree;
       spelled = spelled;
       main = stand held files order n tree.body_of sorted has own_body;
-      functions = functions_stand stand held files order n sorted has (functions_in files) in_functions;
+      own = map (with_body (bodies_within files n)) (functions_in files);
+      stand = functions_stand stand held files order n sorted has (functions_in files) in_functions;
+      functions = refl;
       own_places = one_each (places_within files n) (includes_in tree.body_of);
       has_places = places held files order n tree.body_of sorted has own_body;
       function_places = function_places files n (functions_in files);
@@ -142,32 +146,47 @@ stands_for_program stand places held files order name read sorted =
       all_places = refl;
     }
 
-made_is_program : TheyStandFor → TheyHavePlaces → NoneIncludesItself → CallsAreInFiles → (held : Held) (files : List ReadFile) (order : List (List ℕ)) (name : List ℕ) → HasOneTree held → AreRead held name files
-    → MakeProgram files order name (program_within files (length order) (tree_named files name)) → IsProgram held name (program_within files (length order) (tree_named files name))
-made_is_program stand places circles calls held files order name one read made =
-    let stands = stands_for_program stand places held files order name read made.sorted in
-    let W : ℕ → Type 0 = λ places. IsWithin places (program_within files (length order) (tree_named files name)) in
-    record {
-      files = files;
-      read = read;
-      acyclic = is_acyclic circles held files order name one read made.sorted;
-      tree = stands.tree;
-      spelled = stands.spelled;
-      main = stands.main;
-      functions = stands.functions;
-      rules = rules_kept calls files (length order) name made.rules;
-      own_places = stands.own_places;
-      has_places = stands.has_places;
-      function_places = stands.function_places;
-      have_places = stands.have_places;
-      within = subst W stands.all_places made.within;
-    }
+-- a program that stands for a file with the stubs that it takes
+pub program_of_parts : (held : Held) (name : List ℕ) (files : List ReadFile) (functions : List PlainFunction) (places : ℕ) (program : PlainProgram) → AreRead held name files → HasNoCycle held name
+    → StandsForProgram held name files (taken (functions_in files) functions) places program → KeepsRules program → IsWithin places program
+    → (p : IsProgram held name functions program) × (p.files ≡ files)
+program_of_parts held name files functions places program read acyclic st rules within = (
+  record {
+    files = files;
+    read = read;
+    acyclic = acyclic;
+    tree = st.tree;
+    spelled = st.spelled;
+    main = st.main;
+    own = st.own;
+    stand = st.stand;
+    functions = st.functions ∙ ap (λ (fs : List PlainFunction). st.own ++ fs) (sym (same_taken held (functions_in files) st.own st.stand functions));
+    rules = rules;
+    own_places = st.own_places;
+    has_places = st.has_places;
+    function_places = st.function_places;
+    have_places = st.have_places;
+    within = subst (λ (n : ℕ). IsWithin n program) st.all_places within;
+  },
+  refl,
+)
+
+made_is_program : TheyStandFor → TheyHavePlaces → NoneIncludesItself → CallsAreInFiles → (held : Held) (files : List ReadFile) (functions : List PlainFunction) (order : List (List ℕ)) (name : List ℕ) → HasOneTree held → AreRead held name files → AreStubs functions
+    → MakeProgram files (taken (functions_in files) functions) order name (with_stubs (taken (functions_in files) functions) (program_within files (length order) (tree_named files name)))
+    → IsProgram held name functions (with_stubs (taken (functions_in files) functions) (program_within files (length order) (tree_named files name)))
+made_is_program stand places circles calls held files functions order name one read are made =
+    let stubs = taken (functions_in files) functions in
+    let stubs_are = taken_are_stubs (functions_in files) functions are in
+    let p = program_of_parts held name files functions (program_places files (length order) (tree_named files name)) (with_stubs stubs (program_within files (length order) (tree_named files name))) read
+    (is_acyclic circles held files order name one read made.sorted) (stands_for_program stand places held files order name stubs read made.sorted) (rules_kept calls files stubs (length order) name stubs_are.whole made.rules) made.within in
+    p.0
 
 pub is_program : TheyStandFor → TheyHavePlaces → NoneIncludesItself → CallsAreInFiles → ReadsTheProgram
-    → (held : Held) (files : List ReadFile) (order : List (List ℕ)) (name : List ℕ) (program : PlainProgram) → HasOneTree held → Reached (HasTree held) name files [] → MakeProgram files order name program → IsProgram held name program
-is_program stand places circles calls reading held files order name program one reached made =
-    let P : PlainProgram → Type 0 = λ p. MakeProgram files order name p in
-    subst (IsProgram held name) (sym made.program_is) (made_is_program stand places circles calls held files order name one (reading held name files one reached) (subst P made.program_is made))
+    → (held : Held) (files : List ReadFile) (functions : List PlainFunction) (order : List (List ℕ)) (name : List ℕ) (program : PlainProgram) → HasOneTree held → Reached (HasTree held) name files [] → AreStubs functions
+    → MakeProgram files (taken (functions_in files) functions) order name program → IsProgram held name functions program
+is_program stand places circles calls reading held files functions order name program one reached are made =
+    let P : PlainProgram → Type 0 = λ p. MakeProgram files (taken (functions_in files) functions) order name p in
+    subst (IsProgram held name functions) (sym made.program_is) (made_is_program stand places circles calls held files functions order name one (reading held name files one reached) are (subst P made.program_is made))
 
 -- each file is one of a script
 pub are_scripts : (held : Held) (name : List ℕ) (files : List ReadFile) → AreRead held name files → AreScripts files

@@ -1,21 +1,21 @@
 -- The sizes of what files stand for, along an order of their includes.
-use Rattle.std.proofs.Common.{◌≡◌, ◌∙◌, ◌≤◌, ◌<◌, ℕ, zero, suc, ◌+◌, true, List, [], ◌∷◌, ◌++◌, length, take, drop, set, get_or, Option, Some, None, option_map, slice_get, inl, inr, refl, sym, ap, subst, arith}
+use Rattle.std.proofs.Common.{◌≡◌, ◌∙◌, ◌≤◌, ◌<◌, ℕ, zero, suc, ◌+◌, true, List, [], ◌∷◌, ◌++◌, length, map, take, drop, set, get_or, Option, Some, None, option_map, slice_get, inl, inr, refl, sym, ap, subst, arith}
 use Rattle.std.specs.Prelude.{◌⊎◌}
 use Rattle.std.specs.List.{Contains}
 use Rattle.std.proofs.lemmas.Grind.{common_steps}
-use Rattle.std.proofs.lemmas.List.{drop_all}
+use Rattle.std.proofs.lemmas.List.{append-nil, drop_all}
 use Rattle.std.proofs.lemmas.List.Elements.{Contains-append_left, Contains-append_right, Contains-append_cases}
 use Rattle.std.proofs.lemmas.Option.{same_Some, slice_get-map, slice_get-get_or, slice_get_within}
 use Rattle.strong_components.proofs.OrderListLemmas.{set_at}
 use Rattle.php_syntax.specs.declared.tree.Stmt.{Stmt}
 use Rattle.php_syntax.specs.declared.tree.FunctionDef.{FunctionDef}
 use Rattle.php_syntax.specs.declared.tree.FileTree.{FileTree}
-use Rattle.php_syntax.specs.Trees.{PlainFunction, PlainFile, plain_file, stmts_of, functions_of_list}
+use Rattle.php_syntax.specs.Trees.{PlainStmts, PlainFunction, PlainFile, plain_file, stmts_of, functions_of_list}
 use Rattle.php_syntax.specs.Height.{file_nodes, file_height}
 use Rattle.program_rules.specs.declared.limits.TheConstants.{PLACE_LIMIT, NODE_LIMIT, PROGRAM_HEIGHT_LIMIT}
 use Rattle.program_rules.specs.Includes.{includes_in, includes_in_functions, includes_of_file}
 use Rattle.program_rules.specs.Limits.{one_each, as_file, IsWithin}
-use Rattle.program_rules.specs.Bodies.{with_bodies}
+use Rattle.program_rules.specs.Bodies.{with_bodies, with_body}
 use Rattle.program_rules.specs.Programs.{ReadFile, functions_in}
 use Rattle.program_files.specs.Order.{is_read, place_of}
 use Rattle.include_expansion.specs.Within.{tree_named, bodies_within, places_within, program_within}
@@ -24,10 +24,13 @@ use Rattle.include_expansion.proofs.PlaceLemmas.{place_there, file_there, tree_t
 use Rattle.program_sizes.specs.declared.size.Size.{Size}
 use Rattle.program_sizes.specs.Sizes as sizes
 use Rattle.program_sizes.specs.Bodies.{of_body, body_of_path, IsTableOfFirst, IsBodyTable}
-use Rattle.program_sizes.specs.Limits.{program_places, PassesLimit}
+use Rattle.program_sizes.specs.FileRules.{all_functions}
+use Rattle.program_sizes.specs.Limits.{function_places, program_places, PassesLimit}
+use Rattle.program_sizes.specs.Loaded.{with_stubs}
 use Rattle.program_sizes.proofs.SizeLemmas.{same_size, within_capped}
 use Rattle.program_sizes.proofs.CappedLemmas.{capped_stmts, capped_program}
 use Rattle.program_sizes.proofs.BodyLemmas.{body_sized, program_sized, functions_append}
+use Rattle.program_sizes.proofs.StubLemmas.{functions_include, stubs_as_they_are, no_more_places}
 
 same_or_not : (a b : ℕ) → (a ≡ b) ⊎ (a ≡ b → ⊥)
 same_or_not zero zero = inl refl
@@ -198,15 +201,6 @@ unfolding functions_in sizes.of_functions
 no_files_left table files place le = ap (λ (fs : List ReadFile). sizes.of_functions table (functions_in fs)) (drop_all place files le)
 
 -- what the functions of files include, a file includes
-functions_include : (fs gs : List PlainFunction) → includes_in_functions (fs ++ gs) ≡ includes_in_functions fs ++ includes_in_functions gs
-unfolding includes_in_functions
-functions_include [] gs = refl
-functions_include (f ∷ fs) gs = ap (λ (xs : List (List ℕ)). includes_in f.body_of ++ xs) (functions_include fs gs) ∙ sym (assoc (includes_in f.body_of) (includes_in_functions fs) (includes_in_functions gs))
-  where
-    assoc : (a b c : List (List ℕ)) → (a ++ b) ++ c ≡ a ++ (b ++ c)
-    assoc [] b c = refl
-    assoc (x ∷ xs) b c = ap (λ (ys : List (List ℕ)). x ∷ ys) (assoc xs b c)
-
 in_functions : (tree : PlainFile) (path : List ℕ) → Contains (includes_in_functions tree.functions_of) path → Contains (includes_of_file tree) path
 unfolding includes_of_file
 in_functions tree path c = Contains-append_right (includes_in tree.body_of) (includes_in_functions tree.functions_of) path c
@@ -220,38 +214,70 @@ function_includes (file ∷ files) path c =
       | inr later ↦ (let rest = function_includes files path later in (rest.0, Contains-append_right (file ∷ []) files rest.0 rest.1, rest.2))
     ]
 
-all_read : (files : List ReadFile) (main : PlainFile) → AreWhole files → ((file : ReadFile) × Contains files file × (file.tree ≡ main)) → (path : List ℕ) → Contains (includes_in main.body_of ++ includes_in_functions (functions_in files)) path → is_read files path ≡ true
-all_read files main whole own path c = elim (Contains-append_cases (includes_in main.body_of) (includes_in_functions (functions_in files)) path c) [
+all_read : (files : List ReadFile) (main : PlainFile) (stubs : List PlainFunction) → AreWhole files → ((file : ReadFile) × Contains files file × (file.tree ≡ main)) → includes_in_functions stubs ≡ []
+    → (path : List ℕ) → Contains (includes_in main.body_of ++ includes_in_functions (all_functions files stubs)) path → is_read files path ≡ true
+all_read files main stubs whole own none path c = elim (Contains-append_cases (includes_in main.body_of) (includes_in_functions (all_functions files stubs)) path c) [
   | inl body ↦ whole.closed own.0 path own.1 (subst (λ (t : PlainFile). Contains (includes_of_file t) path) (sym own.2) (in_file main path body))
-  | inr later ↦ (let f = function_includes files path later in whole.closed f.0 path f.1 f.2)
+  | inr later ↦ (
+      let all : includes_in_functions (all_functions files stubs) ≡ includes_in_functions (functions_in files) =
+      functions_include (functions_in files) stubs ∙ ap (λ (xs : List (List ℕ)). includes_in_functions (functions_in files) ++ xs) none ∙ append-nil (includes_in_functions (functions_in files)) in
+      let f = function_includes files path (subst (λ (xs : List (List ℕ)). Contains xs path) all later) in
+      whole.closed f.0 path f.1 f.2
+      )
 ]
 
 -- the size of the program, in full
-abbrev pub program_size : List ReadFile → ℕ → PlainFile → Size
-program_size files n main = record { places = program_places files n main; nodes = file_nodes (as_file (program_within files n main)); height = file_height (as_file (program_within files n main)) }
-
-pub size_is : (files : List ReadFile) (order : List ℕ) (table : List Size) (main : PlainFile) (size : Size) → AreWhole files → ((file : ReadFile) × Contains files file × (file.tree ≡ main)) → IsBodyTable files order table
-    → size ≡ sizes.capped (sizes.above (sizes.beside (sizes.of_stmts (sizes.size_at files table) main.body_of) (sizes.of_functions (sizes.size_at files table) (functions_in files))))
-    → size ≡ sizes.capped (program_size files (length order) main)
-size_is files order table main size whole own is e =
-    let n = length order in
-    e ∙ capped_program (sizes.size_at files table) (body_of_path files n) main.body_of (functions_in files) (λ path c. is.sized n path (omega arith) (all_read files main whole own path c))
-    ∙ ap sizes.capped (program_sized files n main.body_of (functions_in files))
-
-pub is_within : (files : List ReadFile) (n : ℕ) (main : PlainFile) (size : Size) → size ≡ sizes.capped (program_size files n main) → size.places ≤ PLACE_LIMIT → size.nodes ≤ NODE_LIMIT → size.height ≤ PROGRAM_HEIGHT_LIMIT
-    → IsWithin (program_places files n main) (program_within files n main)
-is_within files n main size e p q r = record {
-  places_within = (within_capped size (program_size files n main) PLACE_LIMIT e (omega arith)).0.0 p;
-  nodes_within = (within_capped size (program_size files n main) NODE_LIMIT e (omega arith)).1.0 q;
-  height_within = (within_capped size (program_size files n main) PROGRAM_HEIGHT_LIMIT e (omega arith)).2.0 r;
+abbrev pub program_size : List ReadFile → List PlainFunction → ℕ → PlainFile → Size
+program_size files stubs n main = record {
+  places = program_places files n main;
+  nodes = file_nodes (as_file (with_stubs stubs (program_within files n main)));
+  height = file_height (as_file (with_stubs stubs (program_within files n main)));
 }
 
-pub too_many_places : (files : List ReadFile) (n : ℕ) (main : PlainFile) (size : Size) → size ≡ sizes.capped (program_size files n main) → PLACE_LIMIT < size.places → PassesLimit (program_places files n main) (program_within files n main) (PLACE_LIMIT + 1)
-too_many_places files n main size e p = inl ((within_capped size (program_size files n main) PLACE_LIMIT e (omega arith)).0.1 p, refl)
+-- stubs have no places of includes, and stand as they are
+stubbed : (files : List ReadFile) (stubs : List PlainFunction) (n : ℕ) (main : PlainFile) → includes_in_functions stubs ≡ []
+    → sizes.above (sizes.beside (sizes.of_stmts (body_of_path files n) main.body_of) (sizes.of_functions (body_of_path files n) (all_functions files stubs))) ≡ program_size files stubs n main
+stubbed files stubs n main none =
+    let own = functions_in files in
+    let b : List ℕ → PlainStmts = bodies_within files n in
+    let e = stubs_as_they_are b own stubs none in
+    program_sized files n main.body_of (own ++ stubs)
+    ∙ same_size (record {
+      places = one_each (places_within files n) (includes_in main.body_of) + function_places files n (own ++ stubs);
+      nodes = file_nodes (record { body_of = with_bodies b main.body_of; functions_of = map (with_body b) (own ++ stubs) });
+      height = file_height (record { body_of = with_bodies b main.body_of; functions_of = map (with_body b) (own ++ stubs) });
+    }) (program_size files stubs n main)
+    (ap (λ (k : ℕ). one_each (places_within files n) (includes_in main.body_of) + k) (no_more_places files n own stubs none))
+    (ap (λ (fs : List PlainFunction). file_nodes (record { body_of = with_bodies b main.body_of; functions_of = fs })) (sym e))
+    (ap (λ (fs : List PlainFunction). file_height (record { body_of = with_bodies b main.body_of; functions_of = fs })) (sym e))
 
-pub too_many_nodes : (files : List ReadFile) (n : ℕ) (main : PlainFile) (size : Size) → size ≡ sizes.capped (program_size files n main) → size.places ≤ PLACE_LIMIT → NODE_LIMIT < size.nodes → PassesLimit (program_places files n main) (program_within files n main) (NODE_LIMIT + 1)
-too_many_nodes files n main size e p q = inr (inl ((within_capped size (program_size files n main) PLACE_LIMIT e (omega arith)).0.0 p, (within_capped size (program_size files n main) NODE_LIMIT e (omega arith)).1.1 q, refl))
+pub size_is : (files : List ReadFile) (order : List ℕ) (table : List Size) (main : PlainFile) (stubs : List PlainFunction) (size : Size) → AreWhole files → ((file : ReadFile) × Contains files file × (file.tree ≡ main)) → includes_in_functions stubs ≡ []
+    → IsBodyTable files order table
+    → size ≡ sizes.capped (sizes.above (sizes.beside (sizes.of_stmts (sizes.size_at files table) main.body_of) (sizes.of_functions (sizes.size_at files table) (all_functions files stubs))))
+    → size ≡ sizes.capped (program_size files stubs (length order) main)
+size_is files order table main stubs size whole own none is e =
+    let n = length order in
+    e ∙ capped_program (sizes.size_at files table) (body_of_path files n) main.body_of (all_functions files stubs) (λ path c. is.sized n path (omega arith) (all_read files main stubs whole own none path c))
+    ∙ ap sizes.capped (stubbed files stubs n main none)
 
-pub too_high : (files : List ReadFile) (n : ℕ) (main : PlainFile) (size : Size) → size ≡ sizes.capped (program_size files n main) → size.places ≤ PLACE_LIMIT → size.nodes ≤ NODE_LIMIT → PROGRAM_HEIGHT_LIMIT < size.height → PassesLimit (program_places files n main) (program_within files n main) (PROGRAM_HEIGHT_LIMIT + 1)
-too_high files n main size e p q r =
-    inr (inr ((within_capped size (program_size files n main) PLACE_LIMIT e (omega arith)).0.0 p, (within_capped size (program_size files n main) NODE_LIMIT e (omega arith)).1.0 q, (within_capped size (program_size files n main) PROGRAM_HEIGHT_LIMIT e (omega arith)).2.1 r, refl))
+pub is_within : (files : List ReadFile) (stubs : List PlainFunction) (n : ℕ) (main : PlainFile) (size : Size) → size ≡ sizes.capped (program_size files stubs n main) → size.places ≤ PLACE_LIMIT → size.nodes ≤ NODE_LIMIT → size.height ≤ PROGRAM_HEIGHT_LIMIT
+    → IsWithin (program_places files n main) (with_stubs stubs (program_within files n main))
+is_within files stubs n main size e p q r = record {
+  places_within = (within_capped size (program_size files stubs n main) PLACE_LIMIT e (omega arith)).0.0 p;
+  nodes_within = (within_capped size (program_size files stubs n main) NODE_LIMIT e (omega arith)).1.0 q;
+  height_within = (within_capped size (program_size files stubs n main) PROGRAM_HEIGHT_LIMIT e (omega arith)).2.0 r;
+}
+
+pub too_many_places : (files : List ReadFile) (stubs : List PlainFunction) (n : ℕ) (main : PlainFile) (size : Size) → size ≡ sizes.capped (program_size files stubs n main) → PLACE_LIMIT < size.places
+    → PassesLimit (program_places files n main) (with_stubs stubs (program_within files n main)) (PLACE_LIMIT + 1)
+too_many_places files stubs n main size e p = inl ((within_capped size (program_size files stubs n main) PLACE_LIMIT e (omega arith)).0.1 p, refl)
+
+pub too_many_nodes : (files : List ReadFile) (stubs : List PlainFunction) (n : ℕ) (main : PlainFile) (size : Size) → size ≡ sizes.capped (program_size files stubs n main) → size.places ≤ PLACE_LIMIT → NODE_LIMIT < size.nodes
+    → PassesLimit (program_places files n main) (with_stubs stubs (program_within files n main)) (NODE_LIMIT + 1)
+too_many_nodes files stubs n main size e p q =
+    inr (inl ((within_capped size (program_size files stubs n main) PLACE_LIMIT e (omega arith)).0.0 p, (within_capped size (program_size files stubs n main) NODE_LIMIT e (omega arith)).1.1 q, refl))
+
+pub too_high : (files : List ReadFile) (stubs : List PlainFunction) (n : ℕ) (main : PlainFile) (size : Size) → size ≡ sizes.capped (program_size files stubs n main) → size.places ≤ PLACE_LIMIT → size.nodes ≤ NODE_LIMIT → PROGRAM_HEIGHT_LIMIT < size.height
+    → PassesLimit (program_places files n main) (with_stubs stubs (program_within files n main)) (PROGRAM_HEIGHT_LIMIT + 1)
+too_high files stubs n main size e p q r =
+    inr (inr ((within_capped size (program_size files stubs n main) PLACE_LIMIT e (omega arith)).0.0 p, (within_capped size (program_size files stubs n main) NODE_LIMIT e (omega arith)).1.0 q, (within_capped size (program_size files stubs n main) PROGRAM_HEIGHT_LIMIT e (omega arith)).2.1 r, refl))

@@ -2,15 +2,16 @@
 //! name. Each function stands for the law that its contract states.
 
 ghost use Rattle.std.specs.Prelude.{◌≡◌, ℕ, List, [], true, length};
+ghost use Rattle.php_syntax.specs.Trees.{PlainFunction};
 ghost use Rattle.script_meaning.specs.Programs.{PlainProgram};
 ghost use Rattle.program_rules.specs.Files.{Held, HasTree, HasOneScript, HasOneTree};
-ghost use Rattle.program_rules.specs.Programs.{ReadFile, IsProgram, HasNoCycle};
+ghost use Rattle.program_rules.specs.Programs.{ReadFile, functions_in, taken, IsProgram, HasNoCycle};
 ghost use Rattle.program_rules.specs.Lawful.{IsLawful};
 ghost use Rattle.program_files.specs.Order.{is_read, Reached};
 ghost use Rattle.include_expansion.specs.FileOrder.{AreWhole};
 ghost use Rattle.include_expansion.specs.Within.{tree_named, program_within, IsIncludeOrder, AreHeld};
 ghost use Rattle.program_sizes.specs.Limits.{program_places};
-ghost use Rattle.program_sizes.specs.Loaded.{AreScripts, MakeProgram, StandsForProgram};
+ghost use Rattle.program_sizes.specs.Loaded.{AreScripts, AreStubs, with_stubs, MakeProgram, StandsForProgram};
 
 use include_expansion::{
     calls_are_in_files, files_of_the_program, forms_are_kept, no_include_is_left,
@@ -44,18 +45,18 @@ pub fn read_files_are_whole()
 }
 
 /// Where they have an order of their includes, none includes itself, and the file of the name
-/// stands for a program, however large.
+/// stands for a program with stubs, however large.
 pub fn ordered_files_stand_for_a_program()
     ensures acyclic { (held : Held) (name : List ℕ) (files : List ReadFile) (order : List (List ℕ))
         →
         HasOneTree held → Reached (HasTree held) name files [] → IsIncludeOrder files order
         → HasNoCycle held name }
     ensures program { (held : Held) (name : List ℕ) (files : List ReadFile) (order : List (List ℕ))
-        →
+        (stubs : List PlainFunction) →
         HasOneTree held → Reached (HasTree held) name files [] → IsIncludeOrder files order →
-        StandsForProgram held name files
+        StandsForProgram held name files stubs
         (program_places files (length order) (tree_named files name))
-        (program_within files (length order) (tree_named files name)) }
+        (with_stubs stubs (program_within files (length order) (tree_named files name))) }
 {
     files_of_the_program();
     statements_stand_for();
@@ -65,9 +66,10 @@ pub fn ordered_files_stand_for_a_program()
 
 /// What files make is lawful.
 pub fn made_programs_are_lawful()
-    ensures { (files : List ReadFile) (order : List (List ℕ)) (name : List ℕ)
-        (program : PlainProgram) →
-        AreScripts files → MakeProgram files order name program → IsLawful program }
+    ensures { (files : List ReadFile) (stubs : List PlainFunction) (order : List (List ℕ))
+        (name : List ℕ) (program : PlainProgram) →
+        AreScripts files → AreStubs stubs → MakeProgram files stubs order name program
+        → IsLawful program }
 {
     calls_are_in_files();
     rules_are_kept();
@@ -75,12 +77,13 @@ pub fn made_programs_are_lawful()
     no_include_is_left();
 }
 
-/// And it is the program of the name.
+/// And it is the program of the name, with those that it takes of the functions of a file of stubs.
 pub fn made_programs_are_programs()
-    ensures { (held : Held) (files : List ReadFile) (order : List (List ℕ)) (name : List ℕ)
-        (program : PlainProgram) →
-        HasOneTree held → Reached (HasTree held) name files []
-        → MakeProgram files order name program → IsProgram held name program }
+    ensures { (held : Held) (files : List ReadFile) (functions : List PlainFunction)
+        (order : List (List ℕ)) (name : List ℕ) (program : PlainProgram) →
+        HasOneTree held → Reached (HasTree held) name files [] → AreStubs functions
+        → MakeProgram files (taken (functions_in files) functions) order name program
+        → IsProgram held name functions program }
 {
     files_of_the_program();
     statements_stand_for();

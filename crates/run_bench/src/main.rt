@@ -38,7 +38,7 @@ fn source_of(alloc: Global, script: &str) -> Result<MemFiles, NoMemory> {
 
 fn program_of(alloc: Global, script: &str) -> Result<Option<Program>, NoMemory> {
     let mut source = source_of(alloc, script)?;
-    Ok(load(alloc, &mut source, ".", "t.php").ok())
+    Ok(load(alloc, &mut source, ".", "t.php", None).ok())
 }
 
 fn run_of(alloc: Global, program: &Program) -> Result<Ended, NoMemory> {

@@ -88,9 +88,10 @@ returns-in_err-files-clause-err g c =
     rw (p.1, p.2) (no_memory _ c.args.root.now c.args.name.now _ c.loop-known.invariant.0)
 
 pub returns-clause-ok : goal.returns-clause-ok
-returns-clause-ok g c =
+returns-clause-ok g c later stays =
     let is = c.as_str.ensures.value ∙ c.in_ok-main.ensures in
     let passes = no_step _ _ c.in_ok-step.field-0 c.in_ok-step.ensures c.in_default.is in
-    let has = passed _ c.args.root.now c.args.name.now c.as_str.result.now _ _ _ _ is c.loop-known.invariant.0 passes in
-    let call = source_call (g.F.Files.content c.loop-known.source) (g.F.Files.faults c.args.source.now) (g.F.Files.faults c.loop-known.source) (g.F.Files.misses c.args.source.now) (g.F.Files.misses c.loop-known.source) (g.F.Files.reads c.args.source.now) (g.F.Files.reads c.loop-known.source) in
+    let read = passed _ c.args.root.now c.args.name.now c.as_str.result.now _ _ _ _ is c.loop-known.invariant.0 passes in
+    let has = has_later _ later stays _ _ _ _ _ _ c.args.root.now c.args.name.now _ read in
+    let call = source_call later (g.F.Files.faults c.args.source.now) (g.F.Files.faults c.loop-known.source) (g.F.Files.misses c.args.source.now) (g.F.Files.misses c.loop-known.source) (g.F.Files.reads c.args.source.now) (g.F.Files.reads c.loop-known.source) in
     subst (λ (fs : List ReadFile). ReadsAll call c.args.root.now c.args.name.now fs) (sym c.in_ok-files.ensures) (all_read _ c.args.root.now c.args.name.now c.as_str.result.now _ _ is has c.loop-known.invariant.1)

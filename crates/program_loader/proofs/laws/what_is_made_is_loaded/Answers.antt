@@ -1,4 +1,4 @@
-use Rattle.program_loader.proofs.LoadLemmas.{is_ready, loaded, unmade, unread, memory}
+use Rattle.program_loader.proofs.LoadLemmas.{is_ready, loaded, unmade, unread, unstubbed}
 use Rattle.program_loader.proofs.laws.what_is_made_is_loaded.Goals as goal
 
 pub returns-clause-ready : goal.returns-clause-ready
@@ -16,5 +16,5 @@ returns-clause-err c =
 pub returns-clause-unread : goal.returns-clause-unread
 returns-clause-unread c = unread c.names_looked_at.ensures
 
-pub returns-clause-memory : goal.returns-clause-memory
-returns-clause-memory c = memory
+pub returns-clause-unstubbed : goal.returns-clause-unstubbed
+returns-clause-unstubbed c = unstubbed c.each_has_one_tree.ensures.tree c.each_has_one_tree.ensures.script c.files_of_the_program.ensures

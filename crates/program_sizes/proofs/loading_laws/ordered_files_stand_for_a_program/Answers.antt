@@ -6,4 +6,4 @@ returns-clause-acyclic c = λ held name files order one reached sorted. is_acycl
 
 pub returns-clause-program : goal.returns-clause-program
 returns-clause-program c =
-    λ held name files order one reached sorted. stands_for_program c.statements_stand_for.ensures c.statements_have_places.ensures held files order name (c.files_of_the_program.ensures held name files one reached) sorted
+    λ held name files order stubs one reached sorted. stands_for_program c.statements_stand_for.ensures c.statements_have_places.ensures held files order name stubs (c.files_of_the_program.ensures held name files one reached) sorted

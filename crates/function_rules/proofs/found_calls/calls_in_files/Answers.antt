@@ -2,7 +2,7 @@ use Rattle.std.proofs.Common.{arith}
 use Rattle.program_files.specs.View.{files_of}
 use Rattle.tree_walks.specs.Seen.{calls_seen}
 use Rattle.function_rules.proofs.ArgumentLemmas.{calls_step, calls_end}
-use Rattle.function_rules.proofs.found_calls.calls_of.Goals as goal
+use Rattle.function_rules.proofs.found_calls.calls_in_files.Goals as goal
 
 pub loop-place-preserved : goal.loop-place-preserved
 loop-place-preserved c =
