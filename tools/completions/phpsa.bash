@@ -26,19 +26,19 @@ _phpsa() {
       compopt -o filenames 2>/dev/null
       return
       ;;
-    --request)
+    --request | --stubs)
       mapfile -t COMPREPLY < <(compgen -f -- "$word")
       compopt -o filenames 2>/dev/null
       return
       ;;
   esac
   case $command in
-    check) list='--dtd --limit --nesting --json --root --help' ;;
-    run) list='--request --steps --root --help' ;;
+    check) list='--dtd --limit --nesting --json --root --stubs --help' ;;
+    run) list='--request --steps --root --stubs --help' ;;
     page) list='--dtd --root --help' ;;
-    grammar) list='--root --help' ;;
+    grammar) list='--root --stubs --help' ;;
     make) list='--check --help' ;;
-    site) list='--dtd --limit --nesting --root --help' ;;
+    site) list='--dtd --limit --nesting --root --stubs --help' ;;
     *) list= ;;
   esac
   if [[ $word == -* ]]; then

@@ -15,6 +15,7 @@ complete -c phpsa -n __fish_use_subcommand -f -a help -d 'writes the commands an
 complete -c phpsa -n __fish_use_subcommand -l version -d 'writes the version'
 complete -c phpsa -l help -s h -d 'writes the commands and options'
 complete -c phpsa -n '__phpsa_is check run page grammar site' -l root -x -a '(__fish_complete_directories)' -d 'the folder of what is included'
+complete -c phpsa -n '__phpsa_is check run grammar site' -l stubs -r -d 'the file of functions in place of those of the host'
 complete -c phpsa -n '__phpsa_is check page site' -l dtd -x -a 'strict mini (__fish_complete_path)' -d 'the document type'
 complete -c phpsa -n '__phpsa_is check site' -l limit -x -d 'give up at so many sums'
 complete -c phpsa -n '__phpsa_is check site' -l nesting -d 'ask for matching tags alone'
