@@ -119,13 +119,20 @@ answers() {
   cd "$site" || exit 1
   ends 1 "$phpsa" check list/bug/guests.php
   writes 'page 239' out
-  for page in list/bug/guests.php form/bug/order.php board/bug/board.php; do
+  for page in list/bug/guests.php form/bug/order.php board/bug/board.php stubs/bug/news.php; do
     cd "$site/$(dirname "$page")" || exit 1
     ends 1 "$phpsa" check "$(basename "$page")"
     cd ../mended || exit 1
     ends 0 "$phpsa" check "$(basename "$page")"
   done
   cd "$site" || exit 1
+  # Without stubs the page calls functions that there are not; a file of stubs in a folder is checked as the others are.
+  ends 3 "$phpsa" check stubs/mended/news.php
+  writes 'phpsa: UnknownFunction header' err
+  ends 0 "$phpsa" run --stubs stubs/env.php stubs/mended/news.php
+  ends 1 "$phpsa" check --stubs stubs/env.php stubs/
+  writes 'stubs/env.php: no' out
+  writes 'stubs/mended/news.php: yes' out
   ends 1 "$phpsa" check first/bug/t.php --dtd mini
   ends 0 "$phpsa" check first/mended/t.php --dtd mini
   cd "$room" || exit 1
@@ -152,6 +159,9 @@ answers() {
   (echo '{}' >both) &
   ends 0 timeout 9 "$phpsa" run both --request both
   writes '{}' out
+  (echo '<?php function f() { return "stub"; } echo f();' >both) &
+  ends 0 timeout 9 "$phpsa" run both --stubs both
+  writes stub out
   echo "<?php include 'both';" >in.php
   ends 7 timeout 9 "$phpsa" check in.php
   rm both
@@ -241,12 +251,14 @@ completes() {
 }
 cd "$site/list/mended" || exit 1
 completes check phpsa ch
-completes '--dtd --limit --nesting --json --root --help' phpsa check --
+completes '--dtd --limit --nesting --json --root --stubs --help' phpsa check --
+completes '--root --stubs --help' phpsa grammar --
+completes guests.php phpsa run --stubs gu
 completes 'strict mini guests.php' phpsa check --dtd =
 completes guests.php phpsa run gu
 completes '--check --help' phpsa make --
 if command -v fish >/dev/null 2>&1; then
-  said=$(HOME=$room fish --no-config -c ". $top/tools/completions/phpsa.fish; complete -C 'phpsa run --s'" 2>&1 | cut -f 1)
+  said=$(HOME=$room fish --no-config -c ". $top/tools/completions/phpsa.fish; complete -C 'phpsa run --ste'" 2>&1 | cut -f 1)
   [ "$said" = --steps ] || wrong "fish completes to '$said'"
 else
   echo 'left out: fish, which is not here'
@@ -294,7 +306,7 @@ while read -r answer words; do
 done <"$room/said"
 sed -n 's/^    \(phpsa check \*\.php\)$/\1/p' README.md >"$room/loop"
 [ -s "$room/loop" ] || wrong 'README has no step for a host'
-for folder in "$site"/list "$site"/form "$site"/board; do
+for folder in "$site"/list "$site"/form "$site"/board "$site"/stubs; do
   cp -r "$folder" "$room/host.$(basename "$folder")"
   cd "$room/host.$(basename "$folder")/mended" || exit 1
   ends 0 bash -e "$room/loop"
