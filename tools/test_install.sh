@@ -159,8 +159,9 @@ answers() {
   (echo '{}' >both) &
   ends 0 timeout 9 "$phpsa" run both --request both
   writes '{}' out
-  (echo '<?php function f() { return "stub"; } echo f();' >both) &
-  ends 0 timeout 9 "$phpsa" run both --stubs both
+  echo '<?php echo f();' >calls.php
+  (echo '<?php function f() { return "stub"; }' >both) &
+  ends 0 timeout 9 "$phpsa" run calls.php --stubs both
   writes stub out
   echo "<?php include 'both';" >in.php
   ends 7 timeout 9 "$phpsa" check in.php

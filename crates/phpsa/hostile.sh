@@ -152,6 +152,26 @@ printf '<?php $x = $_GET; $y = $_POST; echo $x === $y ? "same" : "other"; $x["a"
 printf '{"get":%s{}%s,"post":%s{}%s}' "$(times 125 '{"a":')" "$(times 125 '}')" "$(times 125 '{"a":')" "$(times 125 '}')" >request.json
 row 0 run request.php --request request.json
 
+# Files of stubs: a chain of calls through them, one function many times over, those of the script itself, which are all passed over, a body
+# as high as may be, an include behind much else, and what is no file or has no end.
+printf '<?php echo f0();' >asks.php
+printf '<?php %sfunction f4000() { return "a"; }' "$(awk 'BEGIN { for (n = 0; n < 4000; n++) printf "function f%d() { return f%d(); } ", n, n + 1 }')" >chained.php
+printf '<?php %s' "$(times 40000 'function f0() { } ')" >twice.php
+printf '<?php %s echo f0();' "$(times 20000 'function f@() { return 1; } ')" >own.php
+nested high.php 190 "if (isset(\$_GET['a'])) { " "return 'a'; " '} '
+printf '<?php function f0() { %s }' "$(tail -c +7 high.php)" >high_stubs.php
+printf '<?php %sinclude "page.php";' "$(times 40000 'echo 1; ')" >includes.php
+for stubs in chained twice own high_stubs includes; do
+  for command in check grammar run; do
+    row 0,1,2,3,11,13 $command asks.php --stubs $stubs.php
+  done
+done
+for command in check grammar run; do
+  row 0,1,2,11 $command own.php --stubs own.php
+done
+row 11 check asks.php --stubs /dev/zero
+row 7 check asks.php --stubs folder
+
 # Here is the place of what is bounded elsewhere: one count of all work of a check, and the units of runs by the size of results.
 
 # Lists: a thousand names of one script, of scripts that are each too long, and of none.

@@ -1,6 +1,6 @@
 #!/usr/bin/env bash
-# Runs the program on seven calls, with a script, a run, a generated script, a page of three files, a page and a list of scripts, and refuses each
-# of their requests for memory in turn: the Nth call of malloc or realloc gives none. The status has to be 12 then, with the
+# Runs the program on eight calls, with a script, a run, a generated script, a page of three files, a page, a list of scripts and a file of
+# stubs, and refuses each of their requests for memory in turn: the Nth call of malloc or realloc gives none. The status has to be 12 then, with the
 # front of the usual output, or 16 with none where the words of the call had no memory, or everything is as usual. The program
 # is the one that ./phpsa would run, built first where there is none. Needs a C compiler; no test of the gate runs this.
 #
@@ -70,6 +70,8 @@ cat >site.php <<'PHP'
 PHP
 printf '%s' '{"get":{"a":"x<"}}' >r.json
 printf 'page.php\nsite.php\nmissing.php\n' >pages
+printf '%s<p><?= year(), trim("a") ?></p>%s' "$front" "$back" >year.php
+printf '%s' '<?php function year() { return digits(2, 4); } function digits($a, $b) { return $a . $b; } function trim() { }' >env.php
 
 bad=0
 
@@ -104,4 +106,5 @@ row check site.php
 row run site.php --request r.json
 row page page.php
 row site pages
+row check year.php --stubs env.php
 [ "$bad" = 0 ]
