@@ -315,6 +315,32 @@ for folder in "$site"/list "$site"/form "$site"/board "$site"/stubs; do
   ends 1 bash -e "$room/loop"
 done
 
+# The commands of the manual page, as they stand there, in a copy of the examples.
+
+# example NUMBER: writes the commands of this example to a file of their own
+example() {
+  awk -v number="$1" '/^\.fi$/ { is_in = 0 } is_in; /^\.nf$/ { is_in = ++seen == number }' "$top/docs/phpsa.1" |
+    sed 's/\\-/-/g' >"$room/example$1"
+  [ -s "$room/example$1" ] || wrong "the manual page has no example $1"
+}
+for number in 1 2 3 4; do
+  example "$number"
+done
+mkdir "$room/manual" && cp -r "$site" "$room/manual/"
+cd "$room/manual/examples/form/mended" || exit 1
+ends 0 bash "$room/example1"
+script=order.php ends 0 bash "$room/example2"
+script=none.php ends 0 bash "$room/example2"
+cd ../bug || exit 1
+ends 1 bash "$room/example1"
+script=order.php ends 1 bash "$room/example2"
+cd "$room/manual" || exit 1
+echo '{"get":{"guest":["Ann","B & C"]}}' >r.json
+ends 0 bash "$room/example3"
+writes '<li>B &amp; C</li>' out
+ends 0 bash "$room/example4"
+writes yes out
+
 # The hook, with the installed program and with that of the repository.
 
 cd "$room/pages1" || exit 1
