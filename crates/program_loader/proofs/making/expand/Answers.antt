@@ -7,7 +7,8 @@ use Rattle.program_rules.specs.Programs.{functions_in}
 use Rattle.program_rules.specs.Lawful.{program_with}
 use Rattle.program_files.specs.View.{files_of}
 use Rattle.include_expansion.specs.Within.{bodies_within}
-use Rattle.program_loader.proofs.MakeLemmas.{in_row, made, makes}
+use Rattle.function_rules.proofs.TableLemmas.{in_row}
+use Rattle.program_loader.proofs.MakeLemmas.{made, makes}
 use Rattle.program_loader.proofs.making.expand.Goals as goal
 
 pub invariant_of-result : goal.invariant_of-result
