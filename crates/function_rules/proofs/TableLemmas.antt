@@ -16,6 +16,7 @@ use Rattle.program_rules.specs.Programs.{ReadFile, functions_in, taken}
 use Rattle.program_rules.specs.Rules.{is_there, is_double, DefinesTwice}
 use Rattle.function_rules.specs.declared.arity.Numbers.{Numbers}
 use Rattle.function_rules.specs.Arguments.{AreNumbersOf}
+use Rattle.include_expansion.proofs.FileLemmas.{list_append}
 use Rattle.function_rules.proofs.ArgumentLemmas.{tree_of, drop_file}
 use Rattle.function_rules.specs.Table.{IsTable, Takes, HasPut}
 use Rattle.function_rules.proofs.NameLemmas.{push_new, push_other, once_push, builtin_twice, again_twice, is_new}
@@ -153,22 +154,17 @@ name_is_new own name b p r q e is new f looked =
     let own_name : not (is_there (builtin_named name)) ≡ true = ap (λ (o : Option Builtin). not (is_there o)) (sym is) ∙ sym (none_is b p e) ∙ new in
     none_is r q f ∙ ap not (looked_up own name r looked) ∙ ap (λ (a : Bool). a && rest) (sym own_name) ∙ is_new own name
 
--- functions in a row
-pub in_row : (fs gs : List FunctionDef) → functions_of_list (fs ++ gs) ≡ functions_of_list fs ++ functions_of_list gs
-in_row [] gs = refl
-in_row (f ∷ fs) gs = ap (λ (hs : List PlainFunction). plain_function f ∷ hs) (in_row fs gs)
-
 -- one of a new name is taken
 pub take_one : (own : List PlainFunction) (old new : List FunctionDef) (f : FunctionDef) → new ≡ old ++ f ∷ [] → not (is_double f.name own) ≡ true → functions_of_list new ≡ functions_of_list old ++ taken own (plain_function f ∷ [])
 take_one own old new f pushed is =
-    ap functions_of_list pushed ∙ in_row old (f ∷ []) ∙ ap (λ (b : Bool). functions_of_list old ++ cond b (plain_function f ∷ []) []) (sym is)
+    ap functions_of_list pushed ∙ list_append old (f ∷ []) ∙ ap (λ (b : Bool). functions_of_list old ++ cond b (plain_function f ∷ []) []) (sym is)
 
 -- what is taken of one function more
 pub take_more : (own : List PlainFunction) (yielded old new : List FunctionDef) (f : FunctionDef) → functions_of_list old ≡ taken own (functions_of_list yielded) → functions_of_list new ≡ functions_of_list old ++ taken own (plain_function f ∷ [])
     → functions_of_list new ≡ taken own (functions_of_list (yielded ++ f ∷ []))
 take_more own yielded old new f before more =
     let test : PlainFunction → Bool = λ g. not (is_double g.name_of own) in
-    more ∙ ap (λ (fs : List PlainFunction). fs ++ taken own (plain_function f ∷ [])) before ∙ sym (filter-append test (functions_of_list yielded) (plain_function f ∷ [])) ∙ ap (λ (fs : List PlainFunction). taken own fs) (sym (in_row yielded (f ∷ [])))
+    more ∙ ap (λ (fs : List PlainFunction). fs ++ taken own (plain_function f ∷ [])) before ∙ sym (filter-append test (functions_of_list yielded) (plain_function f ∷ [])) ∙ ap (λ (fs : List PlainFunction). taken own fs) (sym (list_append yielded (f ∷ [])))
 
 pub yielded_more : (all before : List FunctionDef) (f : FunctionDef) (rest rest' : List FunctionDef) → all ≡ before ++ rest → rest ≡ f ∷ rest' → all ≡ (before ++ f ∷ []) ++ rest'
 yielded_more all before f rest rest' e g = e ∙ ap (λ (fs : List FunctionDef). before ++ fs) g ∙ sym (append_assoc before (f ∷ []) rest')
