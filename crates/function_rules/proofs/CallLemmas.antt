@@ -3,8 +3,10 @@ use Rattle.std.proofs.Common.{◌≡◌, ◌∙◌, ◌<◌, ◌+◌, ℕ, zero,
 use Rattle.std.specs.Prelude.{not}
 use Rattle.std.specs.List.{Contains, find}
 use Rattle.std.proofs.lemmas.List.{drop_more}
-use Rattle.php_syntax.specs.Trees.{PlainFunction}
-use Rattle.program_rules.specs.Calls.{PlainCall}
+use Rattle.php_syntax.specs.Trees.{no_stmts, PlainFunction}
+use Rattle.program_expressions.specs.Collected.{collected_of}
+use Rattle.program_rules.specs.Calls.{PlainCall, statement_calls, function_calls}
+use Rattle.include_expansion.specs.FileCalls.{calls_in_files}
 use Rattle.program_rules.specs.Programs.{ReadFile}
 use Rattle.program_rules.specs.Rules.{is_known, serves_call}
 use Rattle.tree_walks.specs.declared.call.Call.{Call}
@@ -111,3 +113,8 @@ double_later own more Memory cause = cause
 -- a refusal that is handed on has its cause
 pub handed_on : {A : Type 0} (files : List ReadFile) (stubs : List PlainFunction) (r : Result A LoadRefusal) (refusal : LoadRefusal) → r ≡ Err refusal → IsFunctionCause files stubs refusal → IfErr r (IsFunctionCause files stubs)
 handed_on {A} files stubs r refusal is cause = subst (λ (x : Result A LoadRefusal). IfErr x (IsFunctionCause files stubs)) (sym is) cause
+
+-- the calls of the files, and of no statements and stubs behind them
+pub calls_with_stubs : (files : List ReadFile) (stubs : List PlainFunction) (old new : List PlainCall) → old ≡ calls_in_files files → new ≡ old ++ (statement_calls no_stmts ++ function_calls stubs) → new ≡ all_calls files stubs
+unfolding collected_of
+calls_with_stubs files stubs old new own more = more ∙ ap (λ (cs : List PlainCall). cs ++ function_calls stubs) own

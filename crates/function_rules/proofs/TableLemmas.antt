@@ -1,22 +1,25 @@
 -- The table while functions are put into it.
 use Rattle.std.proofs.Common.{◌≡◌, ◌∙◌, ◌<◌, ◌≤◌, ◌+◌, ℕ, zero, suc, Bool, true, false, cond, nat_eq, List, [], ◌∷◌, ◌++◌, length, drop, get_or, append_assoc, Option, Some, None, is_some, option_map, slice_get, refl, sym, ap, subst, true≢false, arith}
-use Rattle.std.specs.Prelude.{MatchOption, bytes_eq}
+use Rattle.std.specs.Prelude.{MatchOption, ◌&&◌, not, bytes_eq}
 use Rattle.std.specs.Cmp.Lexicographic.{pointwise, bytes_decides}
 use Rattle.std.specs.Map.{lookup}
 use Rattle.std.proofs.lemmas.List.{append-nil, drop_more, drop_all}
+use Rattle.std.proofs.lemmas.List.Elements.{filter-append}
 use Rattle.indexmap.specs.IndexMap.{IndexMap, get}
 use Rattle.php_syntax.specs.declared.tree.FileTree.{FileTree}
 use Rattle.php_syntax.specs.declared.tree.FunctionDef.{FunctionDef}
 use Rattle.php_syntax.specs.Trees.{PlainFunction, PlainFile, plain_function, plain_file, functions_of_list}
+use Rattle.builtin_meaning.specs.declared.builtin.Builtin.{Builtin}
 use Rattle.builtin_meaning.specs.Names.{builtin_named}
 use Rattle.script_meaning.specs.Programs.{function_named}
-use Rattle.program_rules.specs.Programs.{ReadFile, functions_in}
-use Rattle.program_rules.specs.Rules.{is_there, DefinesTwice}
+use Rattle.program_rules.specs.Programs.{ReadFile, functions_in, taken}
+use Rattle.program_rules.specs.Rules.{is_there, is_double, DefinesTwice}
 use Rattle.function_rules.specs.declared.arity.Numbers.{Numbers}
 use Rattle.function_rules.specs.Arguments.{AreNumbersOf}
+use Rattle.include_expansion.proofs.FileLemmas.{list_append}
 use Rattle.function_rules.proofs.ArgumentLemmas.{tree_of, drop_file}
 use Rattle.function_rules.specs.Table.{IsTable, Takes, HasPut}
-use Rattle.function_rules.proofs.NameLemmas.{push_new, push_other, once_push, builtin_twice, again_twice}
+use Rattle.function_rules.proofs.NameLemmas.{push_new, push_other, once_push, builtin_twice, again_twice, is_new}
 
 still : (fs : List PlainFunction) (f : PlainFunction) (q : List ℕ) (o : Option Numbers) → function_named (fs ++ f ∷ []) q ≡ function_named fs q
     → MatchOption o (function_named fs q ≡ None) (Takes fs q) → MatchOption o (function_named (fs ++ f ∷ []) q ≡ None) (Takes (fs ++ f ∷ []) q)
@@ -132,3 +135,36 @@ put_behind rows own more has = record {
   table = has.table;
   once = has.once;
 }
+
+-- what a test whether there is none tells
+none_is : {A : Type 0} (o : Option A) (b : Bool) → is_some o ≡ not b → b ≡ not (is_there o)
+none_is None true e = refl
+none_is None false e = absurd (true≢false (sym e))
+none_is (Some x) true e = absurd (true≢false e)
+none_is (Some x) false e = refl
+
+looked_up : (own : List PlainFunction) (name : List ℕ) (r : Option Numbers) → MatchOption r (function_named own name ≡ None) (Takes own name) → is_there r ≡ is_there (function_named own name)
+looked_up own name r looked = found_there own name r (is_there r) refl looked
+
+-- a name that is found neither among PHP's functions nor in the table is new
+pub name_is_new : (own : List PlainFunction) (name : List ℕ) (b : Option Builtin) (p : Bool) (r : Option Numbers) (q : Bool) → is_some b ≡ not p → b ≡ builtin_named name → p ≡ true → is_some r ≡ not q
+    → MatchOption r (function_named own name ≡ None) (Takes own name) → q ≡ not (is_double name own)
+name_is_new own name b p r q e is new f looked =
+    let rest : Bool = not (is_there (function_named own name)) in
+    let own_name : not (is_there (builtin_named name)) ≡ true = ap (λ (o : Option Builtin). not (is_there o)) (sym is) ∙ sym (none_is b p e) ∙ new in
+    none_is r q f ∙ ap not (looked_up own name r looked) ∙ ap (λ (a : Bool). a && rest) (sym own_name) ∙ is_new own name
+
+-- one of a new name is taken
+pub take_one : (own : List PlainFunction) (old new : List FunctionDef) (f : FunctionDef) → new ≡ old ++ f ∷ [] → not (is_double f.name own) ≡ true → functions_of_list new ≡ functions_of_list old ++ taken own (plain_function f ∷ [])
+take_one own old new f pushed is =
+    ap functions_of_list pushed ∙ list_append old (f ∷ []) ∙ ap (λ (b : Bool). functions_of_list old ++ cond b (plain_function f ∷ []) []) (sym is)
+
+-- what is taken of one function more
+pub take_more : (own : List PlainFunction) (yielded old new : List FunctionDef) (f : FunctionDef) → functions_of_list old ≡ taken own (functions_of_list yielded) → functions_of_list new ≡ functions_of_list old ++ taken own (plain_function f ∷ [])
+    → functions_of_list new ≡ taken own (functions_of_list (yielded ++ f ∷ []))
+take_more own yielded old new f before more =
+    let test : PlainFunction → Bool = λ g. not (is_double g.name_of own) in
+    more ∙ ap (λ (fs : List PlainFunction). fs ++ taken own (plain_function f ∷ [])) before ∙ sym (filter-append test (functions_of_list yielded) (plain_function f ∷ [])) ∙ ap (λ (fs : List PlainFunction). taken own fs) (sym (list_append yielded (f ∷ [])))
+
+pub yielded_more : (all before : List FunctionDef) (f : FunctionDef) (rest rest' : List FunctionDef) → all ≡ before ++ rest → rest ≡ f ∷ rest' → all ≡ (before ++ f ∷ []) ++ rest'
+yielded_more all before f rest rest' e g = e ∙ ap (λ (fs : List FunctionDef). before ++ fs) g ∙ sym (append_assoc before (f ∷ []) rest')

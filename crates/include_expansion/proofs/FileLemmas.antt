@@ -77,7 +77,7 @@ pub stmts_end : (bodies : List ℕ → PlainStmts) (xs : List Stmt) (i : ℕ) (o
 unfolding with_bodies
 stmts_end bodies xs i old init le inv = sym (followed-none old) ∙ sym (ap (λ (l : List Stmt). followed_by old (with_bodies bodies (stmts_of l))) (drop_all i xs le)) ∙ inv
 
-list_append : (xs ys : List FunctionDef) → functions_of_list (xs ++ ys) ≡ functions_of_list xs ++ functions_of_list ys
+pub list_append : (xs ys : List FunctionDef) → functions_of_list (xs ++ ys) ≡ functions_of_list xs ++ functions_of_list ys
 list_append [] ys = refl
 list_append (x ∷ xs) ys = ap (λ (fs : List PlainFunction). plain_function x ∷ fs) (list_append xs ys)
 

@@ -35,8 +35,8 @@ pub fn points_of(alloc: Global, source: &mut MemFiles) -> Option<FlowProgram> {
     lowered(alloc, &program)
 }
 
-// The kinds of points of a program.
-fn kinds_of(alloc: Global, flow: &FlowProgram) -> Result<String, AllocError> {
+/// The kinds of points of a program.
+pub fn kinds_of(alloc: Global, flow: &FlowProgram) -> Result<String, AllocError> {
     let mut out = String::new(alloc);
     put_functions(&mut out, flow.functions.as_slice())?;
     Ok(out)

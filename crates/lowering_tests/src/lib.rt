@@ -9,4 +9,6 @@ mod kinds;
 #[cfg(test)]
 mod points;
 #[cfg(test)]
+mod stubs;
+#[cfg(test)]
 mod versions;

@@ -124,7 +124,7 @@ fn begins_include(token: &Token) -> bool
 }
 
 // The place of the first such word, and 0 where there is none.
-#[tactic(auto, unfolding(program_files::specs::Stubs::include_place))]
+#[tactic(auto, unfolding(crate::specs::Stubs::include_place))]
 fn include_place(tokens: &[Token]) -> u32
     ensures { result ≡ include_place (plain_tokens tokens.now) }
 {

@@ -258,6 +258,7 @@ unmade one scripts reading has acyclic stand call root name stubs files function
 
 -- a file of stubs that was refused
 lacks : OneTreeEach → OneScriptEach → ReadsTheProgram → (call : SourceCall) (root name stubs : List ℕ) (refusal : LoadRefusal) → ReadFirst call root name (Some stubs) refusal → RefusesStubs call root name stubs refusal
+unfolding files_alone
 lacks one scripts reading call root name stubs refusal r =
     let part : SourceCall = source_call call.content call.faults r.faults call.misses r.misses call.reads r.reads in
     let held : Held = r.all.reading.held in

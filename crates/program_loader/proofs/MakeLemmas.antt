@@ -1,13 +1,12 @@
 -- What checked files make.
-use Rattle.std.proofs.Common.{◌≡◌, ◌∙◌, ℕ, false, List, [], ◌∷◌, ◌++◌, length, map, Option, Some, None, option_map, slice_get, refl, sym, ap, subst}
+use Rattle.std.proofs.Common.{◌≡◌, ◌∙◌, ℕ, false, List, ◌++◌, length, map, Option, Some, None, option_map, slice_get, sym, ap, subst}
 use Rattle.std.specs.Prelude.{MatchOption}
 use Rattle.std.specs.Borrow.{Bor}
 use Rattle.std.specs.List.{Contains}
 use Rattle.std.proofs.lemmas.List.{length-map}
 use Rattle.std.proofs.lemmas.Option.{same_Some}
 use Rattle.php_syntax.specs.declared.tree.FileTree.{FileTree}
-use Rattle.php_syntax.specs.declared.tree.FunctionDef.{FunctionDef}
-use Rattle.php_syntax.specs.Trees.{PlainStmts, PlainFunction, PlainFile, plain_function, plain_file, functions_of_list}
+use Rattle.php_syntax.specs.Trees.{PlainStmts, PlainFunction, PlainFile, plain_file}
 use Rattle.script_meaning.specs.Programs.{PlainProgram}
 use Rattle.program_rules.specs.Bodies.{with_bodies, with_body}
 use Rattle.program_rules.specs.Limits.{IsWithin}
@@ -24,11 +23,6 @@ use Rattle.program_sizes.specs.Loaded.{AreStubs, with_stubs, MakeProgram}
 use Rattle.function_rules.specs.Causes.{IsFunctionCause}
 use Rattle.program_loader.specs.Told.{stubs_for}
 use Rattle.program_loader.specs.Making.{AreReady, AreChecked, Make, BreakRules, PassLimit}
-
--- the functions of two vectors in a row
-pub in_row : (fs gs : List FunctionDef) → functions_of_list (fs ++ gs) ≡ functions_of_list fs ++ functions_of_list gs
-in_row [] gs = refl
-in_row (f ∷ fs) gs = ap (λ (hs : List PlainFunction). plain_function f ∷ hs) (in_row fs gs)
 
 -- statements and functions make the program
 pub made : (files : List ReadFile) (stubs : List PlainFunction) (n : ℕ) (tree : PlainFile) (main : PlainStmts) (functions : List PlainFunction) → main ≡ with_bodies (bodies_within files n) tree.body_of

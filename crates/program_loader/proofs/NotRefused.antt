@@ -316,12 +316,12 @@ not_refused_stubs laws reading call root name stubs functions refusal told has s
     calmly rises = calm (subst (λ (f : ℕ). Rises f call.faults') r.source.unfailed rises)
 
     by : (refusal : LoadRefusal) → IsStubFileCause (source_call call.content r.faults call.faults' r.misses call.misses' r.reads call.reads') stubs refusal → refusal ≡ Memory
-    by (Missing written) (same, none, more) = absurd (let no : Tells (known (Some has.bytes)) None = subst (λ (t : Told). Tells t None) is none in cc)
+    by (Missing written) (same, none, counted, rises, faults) = absurd (let no : Tells (known (Some has.bytes)) None = subst (λ (t : Told). Tells t None) is none in cc)
     by (Outside written) cause = absurd cause
     by (ReadFault path) (same, counted, rises, misses) = absurd (calmly rises)
-    by (TooLong path len) (same, counted, over, least, more) =
+    by (TooLong path len) (same, counted, over, least, faults, misses) =
         absurd (let many : len ≤ length has.bytes = subst (λ (t : Told). HasAtLeast t len) is least in let few = short has.bytes is in omega (arith, many, over, few))
-    by (Script path fault) (same, counted, (bytes, answered, broken), more) =
+    by (Script path fault) (same, counted, (bytes, answered, broken), faults, misses) =
         absurd (let one : Some has.bytes ≡ Some bytes = subst (λ (t : Told). Tells t (Some bytes)) is answered in
         no_stub_fault laws reading has.bytes has.tree fault has.is_stub (subst (λ (bs : List ℕ). IsStubFault bs fault) (sym (some_same one)) broken))
     by (IncludeCycle path) cause = absurd cause

@@ -98,8 +98,9 @@ no_places : (files : List ReadFile) (n : ℕ) (stubs : List PlainFunction) → i
 unfolding includes_in_functions function_places one_each
 no_places files n [] none = refl
 no_places files n (f ∷ fs) none =
-    ap (λ (xs : List (List ℕ)). one_each (places_within files n) xs + function_places files n fs) (first_none (includes_in f.body_of) (includes_in_functions fs) none)
-    ∙ no_places files n fs (rest_none (includes_in f.body_of) (includes_in_functions fs) none)
+    let own : one_each (places_within files n) (includes_in f.body_of) ≡ 0 = ap (one_each (places_within files n)) (first_none (includes_in f.body_of) (includes_in_functions fs) none) in
+    let rest = no_places files n fs (rest_none (includes_in f.body_of) (includes_in_functions fs) none) in
+    omega (arith, own, rest)
 
 pub no_more_places : (files : List ReadFile) (n : ℕ) (own stubs : List PlainFunction) → includes_in_functions stubs ≡ [] → function_places files n (own ++ stubs) ≡ function_places files n own
 unfolding function_places

@@ -1,7 +1,7 @@
 //! Walks over the trees of a script: copies, a visit of each expression, and the calls in a file.
 //! Promise: a copy has the same plain form; behind a visit the state of a `Visitor` is moved on by
-//! each expression in turn (`collected` of program_expressions); `find_calls` lists the calls of a
-//! file as program_rules does (`calls_seen` of specs/Seen).
+//! each expression in turn (`collected` of program_expressions); `find_calls` lists the calls of
+//! statements and functions as program_rules does (`calls_seen` of specs/Seen).
 //! Used by: include_expansion, function_rules, program_lowering.
 #![tactic(auto)]
 

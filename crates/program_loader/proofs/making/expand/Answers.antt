@@ -7,7 +7,8 @@ use Rattle.program_rules.specs.Programs.{functions_in}
 use Rattle.program_rules.specs.Lawful.{program_with}
 use Rattle.program_files.specs.View.{files_of}
 use Rattle.include_expansion.specs.Within.{bodies_within}
-use Rattle.program_loader.proofs.MakeLemmas.{in_row, made, makes}
+use Rattle.include_expansion.proofs.FileLemmas.{list_append}
+use Rattle.program_loader.proofs.MakeLemmas.{made, makes}
 use Rattle.program_loader.proofs.making.expand.Goals as goal
 
 pub invariant_of-result : goal.invariant_of-result
@@ -19,7 +20,7 @@ invariant_of-result c =
     let functions = c.append.new.self.items in
     let body : stmts_of main ≡ with_bodies (bodies_within files c.args.nesting) tree.body_of = c.in_ok-main.ensures ∙ ap (λ (ss : List Stmt). with_bodies (bodies_within files c.args.nesting) (stmts_of ss)) c.as_slice.ensures.value in
     let all : functions_of_list functions ≡ map (with_body (bodies_within files c.args.nesting)) (functions_in files) ++ stubs =
-    ap (λ (fs : List FunctionDef). functions_of_list fs) c.in_ok-append.ensures.items ∙ in_row c.in_ok-functions.functions.items c.args.stubs.items ∙ ap (λ (fs : List PlainFunction). fs ++ stubs) c.in_ok-functions.ensures in
+    ap (λ (fs : List FunctionDef). functions_of_list fs) c.in_ok-append.ensures.items ∙ list_append c.in_ok-functions.functions.items c.args.stubs.items ∙ ap (λ (fs : List PlainFunction). fs ++ stubs) c.in_ok-functions.ensures in
     let is = made files stubs c.args.nesting tree (stmts_of main) (functions_of_list functions) body all in
     let lawful =
     c.made_programs_are_lawful.ensures files stubs c.requires.order c.requires.name (program_with main functions) c.requires.scripts c.requires.are_stubs (makes files stubs c.args.nesting tree (program_with main functions) c.requires is) in
@@ -41,5 +42,5 @@ returns c =
     let functions = c.append.new.self.items in
     let body : stmts_of main ≡ with_bodies (bodies_within files c.args.nesting) tree.body_of = c.in_ok-main.ensures ∙ ap (λ (ss : List Stmt). with_bodies (bodies_within files c.args.nesting) (stmts_of ss)) c.as_slice.ensures.value in
     let all : functions_of_list functions ≡ map (with_body (bodies_within files c.args.nesting)) (functions_in files) ++ stubs =
-    ap (λ (fs : List FunctionDef). functions_of_list fs) c.in_ok-append.ensures.items ∙ in_row c.in_ok-functions.functions.items c.args.stubs.items ∙ ap (λ (fs : List PlainFunction). fs ++ stubs) c.in_ok-functions.ensures in
+    ap (λ (fs : List FunctionDef). functions_of_list fs) c.in_ok-append.ensures.items ∙ list_append c.in_ok-functions.functions.items c.args.stubs.items ∙ ap (λ (fs : List PlainFunction). fs ++ stubs) c.in_ok-functions.ensures in
     made files stubs c.args.nesting tree (stmts_of main) (functions_of_list functions) body all
