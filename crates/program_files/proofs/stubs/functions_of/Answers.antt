@@ -17,8 +17,12 @@ returns-then-len-gt0-clause-err c =
     let found : c.find_includes.new.found.items ≡ includes_of_file tree = c.in_ok-find_includes.ensures ∙ ap (λ (xs : List (List ℕ)). xs ++ includes_of_file tree) c.new-found.ensures.items in
     let some : 0 < length c.find_includes.new.found.items = omega (arith, c.len.ensures, c.if-len-gt0.true) in
     let within = shallow tokens tree (rw c.as_slice.ensures.value at c.in_ok-tree.ensures.within) (rw c.as_slice.ensures.value at c.in_ok-tree.ensures.only) in
-    inr (c.include_place-at.result, refl, includes_some c.args.script.now tokens tree c.find_includes.new.found.items c.include_place-at.result c.in_ok-tokens.ensures.tokens.1 (rw c.as_slice.ensures.value at c.in_ok-tree.ensures.tree) within found some
-    (rw c.as_slice-then-len-gt0.ensures.value at c.include_place-at.ensures))
+    inr (
+      c.include_place-at.result,
+      refl,
+      includes_some c.args.script.now tokens tree c.find_includes.new.found.items c.include_place-at.result c.in_ok-tokens.ensures.tokens.1 (rw c.as_slice.ensures.value at c.in_ok-tree.ensures.tree) within found some
+          (rw c.as_slice-then-len-gt0.ensures.value at c.include_place-at.ensures),
+    )
 
 pub returns-clause-ok : goal.returns-clause-ok
 returns-clause-ok c =

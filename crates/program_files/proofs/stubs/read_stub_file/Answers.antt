@@ -14,8 +14,7 @@ returns-in-Ok-functions_of-clause-ok g c =
 pub returns-in-Err-Script-clause-err : goal.returns-in-Err-Script-clause-err
 returns-in-Err-Script-clause-err g c =
     let is = c.as_str.ensures.value ∙ c.in_ok-path.ensures in
-    let told = subst (λ (x : List ℕ). Tells (g.F.Files.content c.read.new.self c.as_str.result.now) (Some x)) (sym c.as_slice.ensures) c.in-Ok.ensures.content in
-    (
+    let told = subst (λ (x : List ℕ). Tells (g.F.Files.content c.read.new.self c.as_str.result.now) (Some x)) (sym c.as_slice.ensures) c.in-Ok.ensures.content in (
       c.in_ok-place.ensures ∙ c.as_bytes.ensures.value ∙ c.in_ok-path.ensures,
       c.in-Ok.ensures.asked,
       (c.as_slice.result.now, subst (λ (x : List ℕ). Tells (g.F.Files.content c.read.new.self x) (Some c.as_slice.result.now)) is told, stub_fault c.as_slice.result.now c.in-Err-Script.refusal (subst (λ (u : Unread). IsUnreadStub c.as_slice.result.now u) c.in-Err-Script.field-0-is c.in-Err-Script.ensures.err)),
