@@ -4,7 +4,7 @@ ghost use Rattle.std.specs.Prelude.{◌≡◌, [], OnOk, IfOk, IfErr};
 ghost use Rattle.php_syntax.specs.Trees.{functions_of_list};
 ghost use Rattle.program_rules.specs.Programs.{functions_in, taken};
 ghost use Rattle.program_files.specs.View.{files_of};
-ghost use Rattle.program_sizes.specs.FileRules.{KeepFunctionRules, all_functions};
+ghost use Rattle.program_sizes.specs.FileRules.{KeepFunctionRules};
 ghost use Rattle.function_rules.specs.Causes.{IsFunctionCause};
 ghost use Rattle.function_rules.specs.Table.{HasPut};
 

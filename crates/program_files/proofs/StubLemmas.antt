@@ -7,10 +7,8 @@ use Rattle.io_edge.specs.Names.{normal}
 use Rattle.php_syntax.specs.Trees.{PlainFunction, PlainFile}
 use Rattle.lexical_grammar.specs.Cuts.{Cuts}
 use Rattle.script_grammar.specs.Grammar.{SpellsTree, IsTooDeep}
-use Rattle.php_parser.specs.declared.refusal.ParseRefusal.TheVariants.{NotInSubset}
 use Rattle.program_rules.specs.Includes.{includes_of_file}
 use Rattle.program_files.specs.declared.refusal.ScriptRefusal.{ScriptRefusal}
-use Rattle.program_files.specs.declared.refusal.ScriptRefusal.TheVariants.{Parse}
 use Rattle.program_files.specs.declared.tree.Unread.{Unread}
 use Rattle.program_files.specs.declared.tree.Unread.TheVariants as unread
 use Rattle.program_files.specs.Source.{source_call, so_many_more}

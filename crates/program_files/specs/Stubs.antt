@@ -1,6 +1,6 @@
 -- A file of stubs: a script that includes nothing, whose functions stand for functions of the host's PHP that the language has not. What
 -- reading it comes to, and why it is refused.
-use Rattle.std.specs.Prelude.{◌≡◌, ◌<◌, ◌⊎◌, ℕ, ◌+◌, Bool, false, if◌then◌else◌, List, [], ◌∷◌, Option, Some, None}
+use Rattle.std.specs.Prelude.{◌≡◌, ◌<◌, ◌⊎◌, ℕ, Bool, false, if◌then◌else◌, List, [], ◌∷◌, Option, Some, None}
 use Rattle.text_base.specs.declared.limits.TheConstants.{FILE_LIMIT}
 use Rattle.io_edge.specs.Counts.{Rises, one_more}
 use Rattle.io_edge.specs.Told.{Content, Tells, HasAtLeast}

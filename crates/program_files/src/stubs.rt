@@ -4,9 +4,9 @@ ghost use Rattle.std.specs.Prelude.{◌≡◌, ◌≤◌, length, option_map, If
 ghost use Rattle.text_base.specs.declared.limits.TheConstants.{FILE_LIMIT};
 ghost use Rattle.io_edge.specs.Told.{Stays};
 ghost use Rattle.php_syntax.specs.Tokens.{plain_token, plain_tokens};
-ghost use Rattle.php_syntax.specs.Trees.{PlainFile, functions_of_list};
+ghost use Rattle.php_syntax.specs.Trees.{functions_of_list};
 ghost use Rattle.program_files.specs.Source.{source_call};
-ghost use Rattle.program_files.specs.Stubs.{IsStubScript, ReadsStubs, is_include_word, include_place, IsStubFileCause, IsStubCause};
+ghost use Rattle.program_files.specs.Stubs.{ReadsStubs, is_include_word, include_place, IsStubFileCause, IsStubCause};
 ghost use Rattle.program_files.specs.Unread.{IsUnreadStub, StubsOf};
 
 use crate::includes::find_includes;

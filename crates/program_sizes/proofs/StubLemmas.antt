@@ -1,8 +1,8 @@
 -- Functions that include nothing stand as they are, whatever stands for includes; which functions of a file of stubs are taken.
 use Rattle.std.proofs.Common.{◌≡◌, ◌∙◌, ℕ, ◌+◌, Bool, true, false, not, List, [], ◌∷◌, ◌++◌, map, refl, sym, ap, arith}
 use Rattle.std.specs.Prelude.{◌||◌, ◌&&◌, bytes_eq, if◌then◌else◌}
-use Rattle.std.specs.List.{Contains, list_any, filter}
-use Rattle.std.proofs.lemmas.List.{map-append, append-nil}
+use Rattle.std.specs.List.{Contains, list_any}
+use Rattle.std.proofs.lemmas.List.{map-append}
 use Rattle.php_syntax.specs.Trees.{PlainStmt, inline_stmt, echo_stmt, run_stmt, if_stmt, while_stmt, do_while_stmt, for_stmt, each_stmt, break_stmt, continue_stmt, return_stmt, include_stmt, quit_stmt, PlainStmts, no_stmts, more_stmts, PlainArms, no_arms, more_arms, PlainFunction, PlainFile}
 use Rattle.script_grammar.specs.Rules.{params_fit, stmts_fit, functions_fit}
 use Rattle.spellable.specs.Spellable.{is_call_name, params_spellable, stmts_spellable, functions_spellable}

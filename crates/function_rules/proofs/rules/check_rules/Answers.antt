@@ -1,4 +1,4 @@
-use Rattle.std.proofs.Common.{◌≡◌, ◌∙◌, List, [], Err, sym, ap, subst, rules}
+use Rattle.std.proofs.Common.{◌≡◌, ◌∙◌, List, [], Err, ap, rules}
 use Rattle.tree_walks.specs.declared.call.Call.{Call}
 use Rattle.tree_walks.specs.Seen.{calls_seen}
 use Rattle.php_syntax.specs.Trees.{functions_of_list}

@@ -1,6 +1,6 @@
 use Rattle.std.proofs.Common.{◌≡◌, ◌∙◌, List, length, sym, ap, subst, arith}
 use Rattle.php_syntax.specs.declared.tree.FunctionDef.{FunctionDef}
-use Rattle.php_syntax.specs.Trees.{PlainFunction, plain_file, functions_of_list}
+use Rattle.php_syntax.specs.Trees.{plain_file, functions_of_list}
 use Rattle.program_rules.specs.Limits.{IsWithin}
 use Rattle.program_rules.specs.Programs.{functions_in}
 use Rattle.program_files.specs.View.{files_of}
