@@ -94,6 +94,37 @@ struct Level {
     has_right: bool,
 }
 
+impl Level {
+    // The power before which a rule of this level stands.
+    fn before(self) -> u16 {
+        if self.leans_left {
+            self.power
+        } else {
+            self.power.saturating_sub(1)
+        }
+    }
+
+    // The power behind which it stands.
+    fn behind(self) -> u16 {
+        if self.leans_right {
+            self.power
+        } else {
+            self.power.saturating_sub(1)
+        }
+    }
+}
+
+// What a right side says of a rule's powers: its first and last symbols, the level of the first
+// symbol that has one, a level that is named, and another mark.
+#[derive(Clone, Copy)]
+struct Side {
+    first: &'static str,
+    last: &'static str,
+    leveled: Option<Level>,
+    named: Option<Level>,
+    mark: &'static str,
+}
+
 // The name of a symbol.
 fn name_of(symbol: u16) -> &'static str {
     match NAMES.get(symbol as usize) {
@@ -184,63 +215,61 @@ fn is_side(side: &str, rule: &Rule) -> bool {
     left == 0
 }
 
-// The powers of a rule: before which tokens and behind which symbols it does not stand.
-fn powers_of(left: &str, side: &str) -> (u16, u16) {
-    let mut named = None;
-    let mut first_leveled = None;
-    let mut first = "";
-    let mut last = "";
-    let mut mark = "";
-    for word in side.split(' ') {
+// What the words of a right side say.
+fn side_of(text: &'static str) -> Side {
+    let mut side = Side {
+        first: "",
+        last: "",
+        leveled: None,
+        named: None,
+        mark: "",
+    };
+    for word in text.split(' ') {
         if word.is_empty() {
             continue;
         }
         if let Some(name) = word.strip_prefix("!=") {
-            named = level_of(name);
+            side.named = level_of(name);
         } else if word.starts_with("!") {
-            mark = word;
+            side.mark = word;
         } else {
-            if first.is_empty() {
-                first = word;
+            if side.first.is_empty() {
+                side.first = word;
             }
-            last = word;
-            if first_leveled.is_none() {
-                first_leveled = level_of(word);
+            side.last = word;
+            if side.leveled.is_none() {
+                side.leveled = level_of(word);
             }
         }
     }
-    if mark == "!loose" {
-        return (MOST, MOST);
+    side
+}
+
+// The powers of a rule: before which tokens and behind which symbols it does not stand.
+fn powers_of(left: &str, text: &'static str) -> (u16, u16) {
+    let side = side_of(text);
+    let level = if side.mark == "!loose" {
+        None
+    } else if side.named.is_none() && side.last == left {
+        side.leveled
+    } else {
+        side.named
+    };
+    let (before, behind) = match level {
+        Some(level) if side.first == left => (level.before(), level.behind()),
+        Some(level) => (level.before(), MOST),
+        None => (MOST, MOST),
+    };
+    match side.mark {
+        "" => (before, behind),
+        "!loose" | "!closed" => (MOST, behind),
+        _ => (top_power().saturating_sub(1), behind),
     }
-    if named.is_none() && last == left {
-        named = first_leveled;
-    }
-    let (mut before, mut behind) = (MOST, MOST);
-    if let Some(level) = named {
-        before = if level.leans_left {
-            level.power
-        } else {
-            level.power.saturating_sub(1)
-        };
-        if first == left {
-            behind = if level.leans_right {
-                level.power
-            } else {
-                level.power.saturating_sub(1)
-            };
-        }
-    }
-    if mark == "!closed" {
-        before = MOST;
-    } else if !mark.is_empty() {
-        before = top_power().saturating_sub(1);
-    }
-    (before, behind)
 }
 
 // Whether a right side with its marks, and what stands behind its ` = `, is that of a rule with
 // its left side.
-fn is_rule(text: &str, rule: &Rule, action: Action) -> bool {
+fn is_rule(text: &'static str, rule: &Rule, action: Action) -> bool {
     let (side, word) = match text.split_once(" = ") {
         Some((side, word)) => (side, word),
         None => (text, ""),
