@@ -11,4 +11,4 @@ mod rows;
 pub mod rules;
 pub mod text;
 
-pub use reading::{read_file, tables};
+pub use reading::read_file;

@@ -12,8 +12,8 @@ use lr_machine::{ReadError, Tables, parse};
 use lr_tables::Event;
 use std::alloc::Global;
 
-/// The tables of the grammar.
-pub fn tables() -> Tables<'static, 121, 117>
+// The tables of the grammar.
+fn tables() -> Tables<'static, 121, 117>
     ensures { shown result ≡ php }
 {
     Tables {

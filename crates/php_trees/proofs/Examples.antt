@@ -1,10 +1,10 @@
 -- Small scripts and their trees, and scripts of PHP that are outside of the language, by computation.
-use Rattle.std.proofs.Common.{◌≡◌, ℕ, ◌+◌, ◌<◌, ℤ, pos, true, List, [], ◌∷◌, Option, Some, None, refl, sym, ap, ◌∙◌, subst, arith}
+use Rattle.std.proofs.Common.{◌≡◌, ℕ, ◌+◌, ◌<◌, pos, List, [], ◌∷◌, Option, Some, None, refl, sym, ap, ◌∙◌, subst, arith}
 use Rattle.std.specs.Prelude.{codes}
 use Rattle.php_syntax.specs.declared.token.Sign.TheVariants as signs
 use Rattle.php_syntax.specs.declared.tree.ArithSign.TheVariants as arith_sign
 use Rattle.php_syntax.specs.Tokens.{PlainKind, variable, name, integer, sign, PlainToken}
-use Rattle.php_syntax.specs.Trees.{PlainExpr, int_expr, var_expr, neg_expr, join_expr, arith_expr, assign_expr, call_expr, no_exprs, more_exprs, no_keys, PlainStmt, PlainStmts, run_stmt, if_stmt, no_stmts, more_stmts, no_arms, more_arms, PlainFile}
+use Rattle.php_syntax.specs.Trees.{int_expr, var_expr, neg_expr, join_expr, arith_expr, assign_expr, call_expr, no_exprs, more_exprs, no_keys, PlainStmt, PlainStmts, run_stmt, if_stmt, no_stmts, more_stmts, no_arms, more_arms, PlainFile}
 use Rattle.lr_tables.specs.declared.event.Event as event
 use Rattle.lr_tables.specs.Machine.{Answer, Read, Wrong, Going, run}
 use Rattle.lr_tables.specs.Checks.{paid, weight_of}
@@ -17,8 +17,8 @@ use Rattle.php_grammar.specs.Certificate.{certificate}
 use Rattle.php_grammar.specs.Php.{php}
 use Rattle.php_grammar.proofs.AreGood.{are_good}
 use Rattle.script_grammar.specs.Rules.{stmts_fit, stmt_fits, arms_fit, expr_fits, exprs_fit, path_fits}
-use Rattle.php_trees.specs.Values.{Value, file}
-use Rattle.php_trees.specs.Reads.{language, parts, ReadAs}
+use Rattle.php_trees.specs.Values.{Value}
+use Rattle.php_trees.specs.Reads.{language, ReadAs}
 
 -- the stack that is made of tokens, if the machine reads them in so many turns
 abbrev made_of : Answer → List PlainKind → Option (List Value)

@@ -1,11 +1,11 @@
 -- What each rule of the language makes of the values of its right side; the grammar's text says which rule makes what. The trees are those
 -- of the language (docs/language.md). An action gives nothing where the rule is outside of the language, or what stands in it is.
-use Rattle.std.specs.Prelude.{ℕ, Bool, true, false, ◌&&◌, if◌then◌else◌, List, [], ◌∷◌, ◌++◌, Option, Some, None, slice_index_or, codes}
+use Rattle.std.specs.Prelude.{ℕ, Bool, true, false, if◌then◌else◌, List, [], ◌∷◌, ◌++◌, Option, Some, None, slice_index_or, codes}
 use Rattle.std.specs.Option.{option_map}
 use Rattle.std.specs.Str.{str_eq_ignore_ascii_case, str_to_ascii_lowercase}
 use Rattle.php_syntax.specs.declared.token.Sign.{Sign}
-use Rattle.php_syntax.specs.Tokens.{inline, name, integer, text, template}
-use Rattle.php_syntax.specs.Trees.{PlainExpr, int_expr, text_expr, join_expr, coalesce_expr, choice_expr, isset_expr, empty_expr, array_expr, assign_expr, update_expr, step_expr, call_expr, member_expr, MaybeExpr, no_expr, some_expr, PlainExprs, no_exprs, more_exprs, PlainItems, no_items, more_items, PlainPath, no_keys, more_keys, PlainStmt, inline_stmt, echo_stmt, run_stmt, if_stmt, while_stmt, do_while_stmt, for_stmt, each_stmt, break_stmt, continue_stmt, return_stmt, include_stmt, quit_stmt, PlainStmts, no_stmts, more_stmts, PlainArms, no_arms, more_arms, PlainParam, PlainFunction, PlainFile}
+use Rattle.php_syntax.specs.Tokens.{inline, integer, text, template}
+use Rattle.php_syntax.specs.Trees.{PlainExpr, int_expr, text_expr, join_expr, coalesce_expr, choice_expr, isset_expr, empty_expr, array_expr, assign_expr, update_expr, step_expr, call_expr, member_expr, MaybeExpr, no_expr, some_expr, PlainExprs, no_exprs, more_exprs, no_items, more_items, no_keys, more_keys, PlainStmt, inline_stmt, echo_stmt, run_stmt, if_stmt, while_stmt, do_while_stmt, for_stmt, each_stmt, break_stmt, continue_stmt, return_stmt, include_stmt, quit_stmt, PlainStmts, no_stmts, more_stmts, PlainArms, no_arms, more_arms, PlainParam, PlainFile}
 use Rattle.script_grammar.specs.declared.keyword.Keyword.{Keyword}
 use Rattle.script_grammar.specs.declared.keyword.Keyword.TheVariants as word
 use Rattle.script_grammar.specs.declared.operator.Level.{Level}

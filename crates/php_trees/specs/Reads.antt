@@ -1,5 +1,5 @@
 -- Which tree tokens are read as.
-use Rattle.std.specs.Prelude.{◌≡◌, true, List, ◌∷◌, [], map}
+use Rattle.std.specs.Prelude.{◌≡◌, true, List, map}
 use Rattle.lr_tables.specs.Values.{Meaning, HasValue}
 use Rattle.php_grammar.specs.Php.{php}
 use Rattle.php_syntax.specs.Tokens.{PlainKind, PlainToken}

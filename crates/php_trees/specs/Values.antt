@@ -1,8 +1,8 @@
 -- The values of the parts of a script: what its tokens and the symbols of PHP's grammar stand for, as far as the language has them.
-use Rattle.std.specs.Prelude.{ℕ, Bool, List, [], ◌∷◌, Option, Some, None, slice_index_or}
+use Rattle.std.specs.Prelude.{ℕ, Bool, List, Option, Some, None, slice_index_or}
 use Rattle.std.specs.Option.{option_map}
 use Rattle.php_syntax.specs.declared.token.Sign.{Sign}
-use Rattle.php_syntax.specs.Tokens.{PlainKind, inline, variable, name, sign}
+use Rattle.php_syntax.specs.Tokens.{PlainKind, variable, name, sign}
 use Rattle.php_syntax.specs.Trees.{PlainExpr, member_expr, if_stmt, MaybeExpr, no_expr, some_expr, PlainExprs, no_exprs, more_exprs, PlainItems, no_items, more_items, PlainPath, no_keys, more_keys, PlainStmts, no_stmts, more_stmts, PlainArms, PlainParam, PlainFunction, PlainFile}
 use Rattle.script_grammar.specs.Expressions.{variable_tree}
 
