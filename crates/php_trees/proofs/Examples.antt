@@ -36,7 +36,7 @@ none_made : {A : Type 0} {a : A} → None ≡ Some a → ⊥
 none_made e = cc
 
 -- what the machine reads, and the actions make, is read
-has_value : (answer : Answer) (n : ℕ) (ks : List PlainKind) (v : Value) → run php n [] (kinds language ks) ≡ answer → made_of answer ks ≡ Some (v ∷ []) → HasValue php.grammar language ks v
+pub has_value : (answer : Answer) (n : ℕ) (ks : List PlainKind) (v : Value) → run php n [] (kinds language ks) ≡ answer → made_of answer ks ≡ Some (v ∷ []) → HasValue php.grammar language ks v
 has_value (Read es) n ks v is h =
     let m = are_meant php.grammar language ks es (v ∷ []) (is_sound php (moves_of php certificate are_good) n (kinds language ks) es is) h in
     subst (HasValue php.grammar language ks) (sym (made_is m.1)) m.2
@@ -52,11 +52,11 @@ no_value es n ks v is enough h value =
     let same : es ≡ a.0 = read_is (sym is ∙ is_complete php certificate (tables_of php certificate are_good) (kinds language ks) a.0 a.1 n enough) in
     none_made (sym h ∙ ap (λ (fs : List event.Event). make php.grammar language fs ks []) same ∙ a.2)
 
-abbrev spelled : List PlainKind → List PlainToken
+abbrev pub spelled : List PlainKind → List PlainToken
 spelled [] = []
 spelled (k ∷ ks) = record { kind = k; at = 0 } ∷ spelled ks
 
-abbrev body : PlainStmts → PlainFile
+abbrev pub body : PlainStmts → PlainFile
 body ss = record { body_of = ss; functions_of = [] }
 
 -- $x = 1 + 2 * 3;
@@ -70,7 +70,7 @@ sum_is_read = record { derived = has_value _ 60 sum _ refl refl; fits = refl }
 abbrev only_stmt : PlainStmt → PlainStmts
 only_stmt s = more_stmts s no_stmts
 
-abbrev called : List ℕ → PlainStmts
+abbrev pub called : List ℕ → PlainStmts
 called f = only_stmt (run_stmt (call_expr f no_exprs))
 
 -- if ($a) if ($b) c(); else d();

@@ -1,5 +1,5 @@
 -- Each form of statement and of expression that the language has, and its tree, by computation. The forms are those of docs/language.md.
-use Rattle.std.proofs.Common.{ℕ, pos, true, false, List, [], ◌∷◌, Some, None, refl}
+use Rattle.std.proofs.Common.{pos, true, false, List, [], ◌∷◌, Some, None, refl}
 use Rattle.std.specs.Prelude.{codes}
 use Rattle.php_syntax.specs.declared.token.Sign.TheVariants as signs
 use Rattle.php_syntax.specs.declared.tree.ArithSign.TheVariants as arith_sign

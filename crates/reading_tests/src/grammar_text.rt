@@ -193,10 +193,10 @@ fn level_of(name: &str) -> Option<Level> {
 
 // Whether the words of a right side, without its marks, are the symbols of a rule.
 fn is_side(side: &str, rule: &Rule) -> bool {
-    let mut left = 0;
+    let mut left: usize = 0;
     for symbol in &rule.back {
         if *symbol != 0 {
-            left += 1;
+            left = left.saturating_add(1);
         }
     }
     for word in side.split(' ') {
@@ -286,7 +286,7 @@ fn is_rule(text: &'static str, rule: &Rule, action: Action) -> bool {
 // The number of the first rule that is not as the text says, if there is one.
 fn first_other() -> Option<usize> {
     let mut left = "";
-    let mut number = 0;
+    let mut number: usize = 0;
     for line in TEXT.lines() {
         if line.is_empty() || line.starts_with("#") || line.starts_with("%") {
             continue;
@@ -307,7 +307,7 @@ fn first_other() -> Option<usize> {
         if name_of(rule.left) != left || !is_rule(side, rule, *action) {
             return Some(number);
         }
-        number += 1;
+        number = number.saturating_add(1);
     }
     if number == RULES.len() {
         None
@@ -346,7 +346,7 @@ fn are_powers() -> bool {
 // Whether the terminals are those of the text in its order, behind the end, and the start is its.
 fn are_symbols() -> bool {
     let mut start = "";
-    let mut number = 1;
+    let mut number: usize = 1;
     for line in TEXT.lines() {
         if let Some(name) = line.strip_prefix("%start ") {
             start = name;
@@ -359,7 +359,7 @@ fn are_symbols() -> bool {
                 Some(named) if *named == name => {}
                 _ => return false,
             }
-            number += 1;
+            number = number.saturating_add(1);
         }
     }
     number == TERMINALS as usize && name_of(START) == start
