@@ -131,3 +131,20 @@ operand = sign signs.Not ∷ variable (codes "x") ∷ sign signs.Assign ∷ inte
 operand_has_no_value : (v : Value) → HasValue php.grammar language operand v → ⊥
 unfolding run make php
 operand_has_no_value v h = no_value _ 40 operand v refl (omega arith) refl h
+
+-- class A { } is PHP too, and outside of the language
+abbrev class_a : List PlainKind
+class_a = name (codes "class") ∷ name (codes "A") ∷ sign signs.OpenBrace ∷ sign signs.CloseBrace ∷ []
+
+class_has_no_value : (v : Value) → HasValue php.grammar language class_a v → ⊥
+unfolding run make php
+class_has_no_value v h = no_value _ 40 class_a v refl (omega arith) refl h
+
+-- and so is $x = $y = 1 < 2 and 3;
+abbrev loosely : List PlainKind
+loosely = variable (codes "x") ∷ sign signs.Assign ∷ variable (codes "y") ∷ sign signs.Assign ∷ integer (pos 1) ∷ sign signs.Less ∷ integer (pos 2)
+    ∷ name (codes "and") ∷ integer (pos 3) ∷ sign signs.Semicolon ∷ []
+
+loosely_has_no_value : (v : Value) → HasValue php.grammar language loosely v → ⊥
+unfolding run make php
+loosely_has_no_value v h = no_value _ 70 loosely v refl (omega arith) refl h

@@ -9,10 +9,11 @@ use Rattle.php_syntax.specs.declared.tree.SuperName.TheVariants as request
 use Rattle.php_syntax.specs.Tokens.{PlainKind, inline, variable, name, integer, text, template, sign, plain_part, read_part}
 use Rattle.php_syntax.specs.Trees.{PlainExpr, null_expr, flag_expr, int_expr, text_expr, var_expr, super_expr, member_expr, array_expr, join_expr, neg_expr, not_expr, arith_expr, compare_expr, and_expr, or_expr, coalesce_expr, choice_expr, isset_expr, empty_expr, assign_expr, update_expr, step_expr, call_expr, no_expr, some_expr, PlainExprs, no_exprs, more_exprs, no_items, more_items, no_keys, more_keys, PlainStmt, inline_stmt, echo_stmt, run_stmt, if_stmt, while_stmt, do_while_stmt, for_stmt, each_stmt, break_stmt, continue_stmt, return_stmt, include_stmt, quit_stmt, PlainStmts, no_stmts, more_stmts, no_arms, more_arms}
 use Rattle.lr_tables.specs.Machine.{run}
-use Rattle.lr_tables.specs.Values.{make}
+use Rattle.lr_tables.specs.Values.{make, HasValue}
 use Rattle.php_grammar.specs.Php.{php}
 use Rattle.script_grammar.specs.Rules.{stmts_fit, stmt_fits, arms_fit, expr_fits, maybe_fits, exprs_fit, items_fit, path_fits}
-use Rattle.php_trees.specs.Reads.{ReadAs}
+use Rattle.php_trees.specs.Values.{file}
+use Rattle.php_trees.specs.Reads.{language, ReadAs}
 use Rattle.php_trees.proofs.Examples.{has_value, spelled, body, called}
 
 abbrev semi : PlainKind
@@ -93,12 +94,11 @@ loops_are_read : ReadAs (spelled loops) (body (row (
 unfolding run make php stmts_fit stmt_fits arms_fit expr_fits maybe_fits exprs_fit items_fit path_fits
 loops_are_read = record { derived = has_value _ 530 loops _ refl refl; fits = refl }
 
--- texts, empty statements, blocks, what prints, includes, the ends of a run; `exit` prints no number ("exit")
+-- texts, empty statements, blocks, what prints, the ends of a run; `exit` prints no number ("exit")
 abbrev others : List PlainKind
 others =
     inline (codes "y") ∷ semi ∷ begin ∷ name (codes "echo") ∷ variable (codes "a") ∷ comma ∷ integer (pos 1) ∷ semi ∷ finish
-    ∷ name (codes "print") ∷ variable (codes "a") ∷ semi ∷ name (codes "include") ∷ text (codes "a.php") ∷ semi ∷ name (codes "REQUIRE")
-    ∷ opens ∷ text (codes "a.php") ∷ closes ∷ semi ∷ name (codes "unset") ∷ opens ∷ variable (codes "a") ∷ closes ∷ semi
+    ∷ name (codes "print") ∷ variable (codes "a") ∷ semi ∷ name (codes "unset") ∷ opens ∷ variable (codes "a") ∷ closes ∷ semi
     ∷ name (codes "exit") ∷ semi ∷ name (codes "exit") ∷ opens ∷ integer (pos 1) ∷ closes ∷ semi ∷ name (codes "die") ∷ opens
     ∷ text (codes "x") ∷ closes ∷ semi ∷ []
 
@@ -106,15 +106,25 @@ others_are_read : ReadAs (spelled others) (body (row (
     inline_stmt (codes "y")
     ∷ echo_stmt (exprs (var_a ∷ int_expr (pos 1) ∷ []))
     ∷ echo_stmt (exprs (var_a ∷ []))
-    ∷ include_stmt (codes "a.php")
-    ∷ include_stmt (codes "a.php")
     ∷ run_stmt (call_expr (codes "unset") (exprs (var_a ∷ [])))
     ∷ quit_stmt no_expr
     ∷ quit_stmt no_expr
     ∷ quit_stmt (some_expr (text_expr (codes "x")))
     ∷ [])))
 unfolding run make php stmts_fit stmt_fits arms_fit expr_fits maybe_fits exprs_fit items_fit path_fits
-others_are_read = record { derived = has_value _ 195 others _ refl refl; fits = refl }
+others_are_read = record { derived = has_value _ 155 others _ refl refl; fits = refl }
+
+-- includes; that the name of their file is UTF-8 is not computed here
+abbrev includes : List PlainKind
+includes =
+    name (codes "include") ∷ text (codes "a.php") ∷ semi ∷ name (codes "REQUIRE") ∷ opens ∷ text (codes "a.php") ∷ closes ∷ semi ∷ []
+
+includes_have_value : HasValue php.grammar language includes (file (body (row (
+    include_stmt (codes "a.php")
+    ∷ include_stmt (codes "a.php")
+    ∷ []))))
+unfolding run make php
+includes_have_value = has_value _ 50 includes _ refl refl
 
 -- branches, in both forms
 abbrev branches : List PlainKind

@@ -283,30 +283,30 @@ fn is_rule(text: &'static str, rule: &Rule, action: Action) -> bool {
     }
 }
 
-// The number of the first rule that is not as the text says, if there is one.
+// The number of the first rule that is not as the text says, if there is one. A line that begins
+// with a bar has the left side of the rule before.
 fn first_other() -> Option<usize> {
-    let mut left = "";
+    let mut left = 0;
     let mut number: usize = 0;
     for line in TEXT.lines() {
         if line.is_empty() || line.starts_with("#") || line.starts_with("%") {
             continue;
         }
-        let side = match line.strip_prefix(" |") {
-            Some(side) => side,
-            None => match line.split_once(":") {
-                Some((name, side)) => {
-                    left = name;
-                    side
-                }
-                None => return Some(number),
-            },
-        };
         let (Some(rule), Some(action)) = (RULES.get(number), ACTIONS.get(number)) else {
             return Some(number);
         };
-        if name_of(rule.left) != left || !is_rule(side, rule, *action) {
+        let side = match line.strip_prefix(" |") {
+            Some(side) if rule.left == left => side,
+            Some(_) => return Some(number),
+            None => match line.split_once(":") {
+                Some((name, side)) if name_of(rule.left) == name => side,
+                _ => return Some(number),
+            },
+        };
+        if !is_rule(side, rule, *action) {
             return Some(number);
         }
+        left = rule.left;
         number = number.saturating_add(1);
     }
     if number == RULES.len() {
@@ -343,14 +343,20 @@ fn are_powers() -> bool {
     true
 }
 
-// Whether the terminals are those of the text in its order, behind the end, and the start is its.
-fn are_symbols() -> bool {
-    let mut start = "";
-    let mut number: usize = 1;
+// The name of the start in the text.
+fn start_name() -> &'static str {
     for line in TEXT.lines() {
         if let Some(name) = line.strip_prefix("%start ") {
-            start = name;
+            return name;
         }
+    }
+    ""
+}
+
+// Whether the terminals are those of the text in its order, behind the end, and the start is its.
+fn are_symbols() -> bool {
+    let mut number: usize = 1;
+    for line in TEXT.lines() {
         let Some(names) = line.strip_prefix("%token ") else {
             continue;
         };
@@ -362,7 +368,7 @@ fn are_symbols() -> bool {
             number = number.saturating_add(1);
         }
     }
-    number == TERMINALS as usize && name_of(START) == start
+    number == TERMINALS as usize && name_of(START) == start_name()
 }
 
 // Whether no two symbols have one name.
