@@ -1,8 +1,11 @@
-//! Statements of the small language, each with the place where it goes wrong, if it does.
+//! Statements of the small language, and files by PHP's grammar, each with the place where it goes
+//! wrong, if it does.
 
 use crate::reading::read_small;
 use lr_machine::ReadError;
 use lr_tables::Event;
+use php_grammar::read_file;
+use php_grammar::rules::{COMMA, ECHO, SEMI, VARIABLE};
 
 // What is told, in one word each: '.' is a token, a letter the rule of its place in the alphabet.
 fn told(rt: &impl AllocGlobal, kinds: &[u16]) -> Result<String, ReadError> {
@@ -65,4 +68,27 @@ fn finds_the_first_wrong_token(rt: HostRuntime) {
     assert_eq!(rt; wrong(&rt, &[7, 16, 4]), 3);
     // a token that the grammar has not
     assert_eq!(rt; wrong(&rt, &[16, 99]), 1);
+}
+
+// Where terminals are no file, if they are none.
+fn wrong_place(rt: &impl AllocGlobal, kinds: &[u16]) -> Result<Option<usize>, ReadError> {
+    match read_file(rt.alloc(), kinds) {
+        Ok(_) => Ok(None),
+        Err(ReadError::Wrong(place)) => Ok(Some(place)),
+        Err(ReadError::NoMemory) => Err(ReadError::NoMemory),
+    }
+}
+
+#[test]
+fn files_are_read(rt: HostRuntime) {
+    // echo $a, $a;
+    assert_eq!(rt;
+        wrong_place(&rt, &[ECHO, VARIABLE, COMMA, VARIABLE, SEMI]),
+        Ok(None)
+    );
+    // echo $a,;
+    assert_eq!(rt;
+        wrong_place(&rt, &[ECHO, VARIABLE, COMMA, SEMI]),
+        Ok(Some(3))
+    );
 }

@@ -1,0 +1,3 @@
+pub mod OneTree
+pub mod Examples
+mod Forms
