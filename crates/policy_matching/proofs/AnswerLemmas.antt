@@ -1,5 +1,5 @@
 -- What the reader tells of texts, and the answers by it.
-use Rattle.std.proofs.Common.{◌≡◌, ◌<◌, ◌≤◌, ◌+◌, ◌↔◌, ℕ, Bool, true, false, List, [], ◌∷◌, ◌++◌, length, refl, sym, ◌∙◌, ap, subst, arith, true≢false}
+use Rattle.std.proofs.Common.{◌≡◌, ◌<◌, ◌≤◌, ◌+◌, ◌↔◌, ℕ, Bool, true, false, List, [], ◌∷◌, ◌++◌, length, Option, Some, None, IfSome, IfNone, refl, sym, ◌∙◌, ap, subst, arith, true≢false}
 use Rattle.std.specs.List.{All, list_all}
 use Rattle.std.proofs.lemmas.List.Elements.{All-head, All-tail}
 use Rattle.text_base.specs.declared.letter.Letter.{Letter}
@@ -16,6 +16,9 @@ use Rattle.tag_sums.specs.Nesting.{nest_of, is_balanced, nest_count}
 use Rattle.summary_decision.specs.Pairs.{tokens_in}
 use Rattle.fst_core.specs.Items.{HasItems}
 use Rattle.fst_core.proofs.Over.{has_items_over}
+use Rattle.grammar_image.specs.declared.refusal.ImageRefusal.{ImageRefusal}
+use Rattle.grammar_image.specs.declared.refusal.ImageRefusal.TheVariants.{Large, Memory}
+use Rattle.grammar_image.specs.Refusals.{IsCause}
 use Rattle.byte_readers.specs.Reading.{tokens_over}
 use Rattle.echoing_machine.specs.Echoes.{EchoStep, EchoEnd, echo_of, IsEcho}
 use Rattle.echoing_machine.proofs.EchoLemmas.{is_echo}
@@ -85,7 +88,7 @@ module _ (rows : List Row) where
       sum_told text tokens there put =
           ap (λ (ts : List PageToken). is_balanced (nest_of ts)) (puts_told text tokens (fits text there) put) ∙ balanced (may_end (after_all text e))
 
-      pub is_miss : (d : Derivation) → IsNotWhole (IsTextOf grammar) Puts nest_of is_balanced (IsDerivationOf grammar) d → IsMiss e grammar d
+      is_miss : (d : Derivation) → IsNotWhole (IsTextOf grammar) Puts nest_of is_balanced (IsDerivationOf grammar) d → IsMiss e grammar d
       is_miss d h = record {
         text = h.text;
         is_text = h.is_text;
@@ -93,13 +96,13 @@ module _ (rows : List Row) where
         misses = λ m. true≢false (sym (matched_ends e h.text m) ∙ (sym (sum_told h.text h.not_whole.tokens h.is_text h.not_whole.has) ∙ h.not_whole.sum));
       }
 
-      pub all_match : (IsImage : Grammar → Type 0) (limit : ℕ) → 2 ≤ limit → NoneFound (IsTextOf grammar) Puts nest_of is_balanced IsImage nest_count limit
+      all_match : (IsImage : Grammar → Type 0) (limit : ℕ) → 2 ≤ limit → NoneFound (IsTextOf grammar) Puts nest_of is_balanced IsImage nest_count limit
           → (text : List ℕ) → IsTextOf grammar text → Matches e text
       all_match IsImage limit two none text there =
           let h = all_nested (IsTextOf grammar) Puts no_tags IsImage limit two none text there in
           ends_matched e text (sym (sum_told text h.tokens there h.has) ∙ h.sum)
 
-      pub has_items : (count : ℕ) → HasItems grammar.productions.items (EchoStep (state_behind rows) no_puts (told_at rows)) grammar.start 0 count
+      has_items : (count : ℕ) → HasItems grammar.productions.items (EchoStep (state_behind rows) no_puts (told_at rows)) grammar.start 0 count
           → HasItems grammar.productions.items DerivativeStep grammar.start e count
       has_items =
           has_items_over grammar.productions.items (EchoStep (state_behind rows) no_puts (told_at rows)) DerivativeStep
@@ -111,6 +114,23 @@ module _ (rows : List Row) where
           over s b u letters d step h = (
             is.stands u,
             (subst (λ (n : ℕ). n < length rows) (sym step.0) (is.within s b h.0), refl),
-            λ small. ap is.stands step.0 ∙ (is.next s b h.0 small ∙ ap (after b) h.1),
-            step.1,
+            (λ small. ap is.stands step.0 ∙ (is.next s b h.0 small ∙ ap (after b) h.1), step.1),
           )
+
+      -- The same by what is found.
+
+      pub some_miss : (o : Option Derivation) (d : Derivation) → o ≡ Some d → IfSome o (IsNotWhole (IsTextOf grammar) Puts nest_of is_balanced (IsDerivationOf grammar))
+          → IsMiss e grammar d
+      some_miss (Some x) d at h = let same : x ≡ d = cc in is_miss d (subst (IsNotWhole (IsTextOf grammar) Puts nest_of is_balanced (IsDerivationOf grammar)) same h)
+      some_miss None d at h = cc
+
+      pub none_missed : (o : Option Derivation) → o ≡ None → (IsImage : Grammar → Type 0) (limit : ℕ) → 2 ≤ limit
+          → IfNone o (NoneFound (IsTextOf grammar) Puts nest_of is_balanced IsImage nest_count limit) → (text : List ℕ) → IsTextOf grammar text → Matches e text
+      none_missed None at IsImage limit two h = all_match IsImage limit two h
+      none_missed (Some x) at IsImage limit two h = cc
+
+      pub large_items : (refusal : ImageRefusal) (limit count : ℕ) → refusal ≡ Large count
+          → IsCause grammar.productions.items (EchoStep (state_behind rows) no_puts (told_at rows)) grammar.start 0 limit refusal
+          → (limit < count) × HasItems grammar.productions.items DerivativeStep grammar.start e count
+      large_items (Large items) limit count at h = let same : items ≡ count = cc in subst (λ (n : ℕ). (limit < n) × HasItems grammar.productions.items DerivativeStep grammar.start e n) same (h.0, has_items items h.1)
+      large_items Memory limit count at h = cc

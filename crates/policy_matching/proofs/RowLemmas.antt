@@ -1,5 +1,6 @@
 -- Rows of states, one after another, to the reader of an expression.
-use Rattle.std.proofs.Common.{◌≡◌, ◌<◌, ◌≤◌, ◌+◌, inl, inr, ℕ, zero, suc, List, [], ◌∷◌, ◌++◌, map, length, get_or, Contains, Option, Some, None, slice_get, length-append, refl, sym, ◌∙◌, ap, subst, arith}
+use Rattle.std.proofs.Common.{◌≡◌, ◌<◌, ◌≤◌, ◌+◌, inl, inr, ℕ, zero, suc, Bool, true, false, List, [], ◌∷◌, ◌++◌, map, length, get_or, Contains, Option, Some, None, slice_get, length-append, refl, sym, ◌∙◌, ap, subst, arith}
+use Rattle.std.specs.Prelude.{if◌then◌else◌}
 use Rattle.std.specs.List.{All}
 use Rattle.std.specs.Option.{option_map}
 use Rattle.std.proofs.lemmas.Bool.{cases_lt}
@@ -28,7 +29,12 @@ row_on a b old new d row grows keeps is = record {
   };
 }
 
--- a list with one member
+-- a set with one member
+pub first_alone : (old new : List ℕ) (n root : ℕ) (is_new : Bool) → old ≡ [] → new ≡ (if is_new then old ++ root ∷ [] else old) → slice_get new n ≡ Some root
+    → new ≡ root ∷ []
+first_alone old new n root true none e at = e ∙ ap (λ (xs : List ℕ). xs ++ root ∷ []) none
+first_alone old new n root false none e at = let nothing : slice_get [] n ≡ Some root = subst (λ (xs : List ℕ). slice_get xs n ≡ Some root) (e ∙ none) at in cc
+
 one_alone : (places : List ℕ) (root n q : ℕ) → places ≡ root ∷ [] → slice_get places n ≡ Some q → root ≡ q
 one_alone places root n q e at = by n (subst (λ (xs : List ℕ). slice_get xs n ≡ Some q) e at)
   where
@@ -39,9 +45,9 @@ one_alone places root n q e at = by n (subst (λ (xs : List ℕ). slice_get xs n
 pub rows_none : (a : Arena) (root : ℕ) (places : List ℕ) → IsExpr a root → places ≡ root ∷ [] → AreRows (expr_at a root) a places []
 rows_none a root places is e = record {
   first = record { place = root; placed = ap (λ (xs : List ℕ). slice_get xs 0) e; made = record { is_expr = is; is = refl } };
-  are = λ n q at. subst (λ (p : ℕ). IsExpr a p × IsBehind (expr_at a root) (expr_at a p)) (one_alone places root n q e at) (is, [], All-nil (λ (b : ℕ). b < 256), refl);
+  are = λ n q at. subst (λ (p : ℕ). IsExpr a p × IsBehind (expr_at a root) (expr_at a p)) (one_alone places root n q e at) (is, ([], All-nil (λ (b : ℕ). b < 256), refl));
   few = omega arith;
-  rows = λ n row at. cc;
+  each = λ n row at. cc;
 }
 
 pub rows_more : (e : Expr) (a b : Arena) (old new : List ℕ) (rows : List Row) (row : Row) (place : ℕ) → AreRows e a old rows → Grows a b
@@ -50,9 +56,9 @@ rows_more e a b old new rows row place are grows placed reaches is = record {
   first = stands_on a b old new 0 e grows reaches.keeps are.first;
   are = reaches.are e (are.are (length rows) place placed).1 are.are;
   few = (let l = length-append rows (row ∷ []) in let w = slice_get_within new (length rows) place there in omega (arith, l, w));
-  rows = λ n r at. elim (at_push rows row n r at) [
+  each = λ n r at. elim (at_push rows row n r at) [
     | inl h ↦
-        let o = are.rows n r h in
+        let o = are.each n r h in
         (o.0, stands_on a b old new n o.0 grows reaches.keeps o.1, row_on a b old new o.0 r grows reaches.keeps o.2)
     | inr h ↦ (
       expr_at a place,
@@ -101,7 +107,7 @@ module _ (e : Expr) (a : Arena) (places : List ℕ) (rows : List Row) (are : Are
 
   -- the row of a state, and where a byte leads by it
   row_at : (s : ℕ) → s < length rows → (row : Row) × (slice_get rows s ≡ Some row) × (d : Expr) × StandsFor a places s d × IsRow a places d row
-  row_at s l = let r = at_below rows s l in (r.0, r.1, are.rows s r.0 r.1)
+  row_at s l = let r = at_below rows s l in let o = are.each s r.0 r.1 in (r.0, r.1, o.0, o.1, o.2)
 
   leads : (s b : ℕ) → s < length rows → b < 256 → StandsFor a places (state_behind rows s b) (after b (stands s))
   leads s b l small =

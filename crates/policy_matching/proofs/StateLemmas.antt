@@ -1,9 +1,9 @@
 -- States that are added, and the runs that lead to them.
-use Rattle.std.proofs.Common.{◌≡◌, ◌<◌, ◌≤◌, ◌+◌, ◌⊎◌, inl, inr, ℕ, Bool, true, false, nat_le, List, [], ◌∷◌, ◌++◌, Contains, Option, Some, None, slice_get, refl, sym, ◌∙◌, ap, subst, arith}
+use Rattle.std.proofs.Common.{◌≡◌, ◌<◌, ◌≤◌, ◌+◌, ◌⊎◌, inl, inr, ℕ, suc, Bool, true, false, nat_le, List, [], ◌∷◌, ◌++◌, Contains, Option, Some, None, slice_get, refl, sym, ◌∙◌, ap, subst, arith}
 use Rattle.std.specs.Prelude.{if◌then◌else◌}
 use Rattle.std.specs.List.{All}
 use Rattle.std.proofs.lemmas.Bool.Decides.{nat_tests}
-use Rattle.std.proofs.lemmas.Bool.{cases_lt}
+use Rattle.std.proofs.lemmas.Bool.{cases_lt, leb-true, leb-false}
 use Rattle.std.proofs.lemmas.List.Elements.{All-push, Contains-push_cases}
 use Rattle.numbered_sets.specs.Numbers.{Keeps, AddsOnly}
 use Rattle.derivatives.specs.Expressions.{Expr}
@@ -12,8 +12,11 @@ use Rattle.derivatives.specs.Standing.{expr_at, IsExpr, IsMade, Grows}
 use Rattle.derivatives.specs.declared.arena.Arena.{Arena}
 use Rattle.derivatives.proofs.NodeLemmas.{expr_stays}
 use Rattle.grammar_chart.proofs.MemberLemmas.{contains_at, at_contains, keeps_both}
+use Rattle.text_base.specs.declared.page_token.PageToken.{PageToken}
+use Rattle.echoing_machine.specs.Runs.{AreAlike}
 use Rattle.policy_matching.specs.declared.rows.Run.{Run}
-use Rattle.policy_matching.specs.Rows.{run_of}
+use Rattle.policy_matching.specs.declared.rows.Row.{Row}
+use Rattle.policy_matching.specs.Rows.{run_of, run_in, run_at, led, state_behind}
 use Rattle.policy_matching.specs.Outside.{IsBehind, StandsFor, AreBehind, Reaches, AreRuns}
 
 -- A state goes on to stand for its expression.
@@ -84,7 +87,7 @@ in_front : (r : Run) (runs : List Run) → Contains (r ∷ runs) r
 in_front r runs = (0, omega arith, refl)
 
 further : (r q : Run) (runs : List Run) → Contains runs q → Contains (r ∷ runs) q
-further r q runs c = let at = at_contains runs q c in contains_at (r ∷ runs) (at.0 + 1) q at.1
+further r q runs c = let at = at_contains runs q c in contains_at (r ∷ runs) (suc at.0) q at.1
 
 found_behind : (b : ℕ) (runs : List Run) (more : Run) → ((r : Run) → Contains runs r → r.last < b) → b ≤ more.last → run_of b (runs ++ more ∷ []) ≡ Some more
 found_behind b [] more before h = ap (λ (x : Bool). if x then Some more else None) (le_is b more.last h)
@@ -118,9 +121,57 @@ runs_more a b old new e end runs more grows keeps longer are leads = record {
   ];
 }
 
+pub runs_turn : (o a b : Arena) (old new : List ℕ) (place end : ℕ) (runs : List Run) (more : Run) → IsExpr o place → Grows o a → Grows a b → Keeps old new
+    → end ≤ more.last → AreRuns a old (expr_at o place) end runs
+    → ((c : ℕ) → end ≤ c → c ≤ more.last → StandsFor b new more.to (after c (expr_at a place))) → AreRuns b new (expr_at o place) (more.last + 1) (runs ++ more ∷ [])
+runs_turn o a b old new place end runs more is begun grows keeps longer are leads =
+    runs_more a b old new (expr_at o place) end runs more grows keeps longer are
+    (λ c h k. subst (λ (e : Expr). StandsFor b new more.to (after c e)) (expr_stays o a begun place is).is (leads c h k))
+
 -- the run that begins with a byte leads to what stands for the derivative by each of its bytes
 pub leads_alike : (a b : Arena) (places : List ℕ) (place byte last to n : ℕ) → slice_get places n ≡ Some to → IsMade b to (after byte (expr_at a place))
     → ((c : ℕ) → byte ≤ c → c ≤ last → after c (expr_at a place) ≡ after byte (expr_at a place))
     → (c : ℕ) → byte ≤ c → c ≤ last → StandsFor b places n (after c (expr_at a place))
 leads_alike a b places place byte last to n placed made alike c h k =
     stands_as b places n to (after byte (expr_at a place)) (after c (expr_at a place)) placed made (sym (alike c h k))
+
+-- All bytes of a run lead to one state.
+
+run_within : (b : ℕ) (runs : List Run) (run : Run) → run_of b runs ≡ Some run → b ≤ run.last
+run_within b [] run h = cc
+run_within b (r ∷ runs) run h = at (nat_le b r.last) refl h (run_within b runs run)
+  where
+    at : (x : Bool) → nat_le b r.last ≡ x → (if x then Some r else run_of b runs) ≡ Some run → (run_of b runs ≡ Some run → b ≤ run.last) → b ≤ run.last
+    at true q h go = let same : r ≡ run = cc in subst (λ (y : Run). b ≤ y.last) same (leb-true b r.last q)
+    at false q h go = go h
+
+run_alike : (b c : ℕ) (runs : List Run) (run : Run) → run_of b runs ≡ Some run → b ≤ c → c ≤ run.last → run_of c runs ≡ Some run
+run_alike b c [] run h low high = cc
+run_alike b c (r ∷ runs) run h low high = at (nat_le b r.last) refl h (λ g. run_alike b c runs run g low high)
+  where
+    at : (x : Bool) → nat_le b r.last ≡ x → (if x then Some r else run_of b runs) ≡ Some run → (run_of b runs ≡ Some run → run_of c runs ≡ Some run)
+        → run_of c (r ∷ runs) ≡ Some run
+    at true q h go =
+        let same : r ≡ run = cc in
+        ap (λ (y : Bool). if y then Some r else run_of c runs) (le_is c r.last (subst (λ (y : Run). c ≤ y.last) (sym same) high)) ∙ ap Some same
+    at false q h go =
+        let past : r.last < b = leb-false b r.last q in
+        ap (λ (y : Bool). if y then Some r else run_of c runs) (le_not c r.last (omega (arith, past, low))) ∙ go h
+
+in_row : (o : Option Row) (b : ℕ) (run : Run) → run_in b o ≡ Some run → b ≤ run.last
+in_row None b run h = cc
+in_row (Some row) b run h = run_within b row.runs.items run h
+
+alike_in : (o : Option Row) (b c : ℕ) (run : Run) → run_in b o ≡ Some run → b ≤ c → c ≤ run.last → run_in c o ≡ Some run
+alike_in None b c run h low high = cc
+alike_in (Some row) b c run h low high = run_alike b c row.runs.items run h low high
+
+pub run_last : (rows : List Row) (s b : ℕ) (run : Run) → run_at rows s b ≡ Some run → b ≤ run.last
+run_last rows s b run h = in_row (slice_get rows s) b run h
+
+pub run_is_alike : (rows : List Row) (s b : ℕ) (run : Run) (puts : ℕ → List PageToken) → run_at rows s b ≡ Some run → ((c : ℕ) → puts c ≡ puts b)
+    → AreAlike (state_behind rows s) puts b run.last
+run_is_alike rows s b run puts h none c low high = (ap (led s) (alike_in (slice_get rows s) b c run h low high ∙ sym h), none c)
+
+pub alike_alone : (next : ℕ → ℕ) (puts : ℕ → List PageToken) (b : ℕ) → AreAlike next puts b b
+alike_alone next puts b c low high = let same : c ≡ b = omega (arith, low, high) in (ap next same, ap puts same)

@@ -60,7 +60,7 @@ pub record AreRows (e : Expr) (arena : Arena) (places : List ℕ) (rows : List R
   pub first : StandsFor arena places 0 e
   pub are : AreBehind e arena places
   pub few : length rows ≤ length places
-  pub rows : (n : ℕ) (row : Row) → slice_get rows n ≡ Some row → (d : Expr) × StandsFor arena places n d × IsRow arena places d row
+  pub each : (n : ℕ) (row : Row) → slice_get rows n ≡ Some row → (d : Expr) × StandsFor arena places n d × IsRow arena places d row
 
 -- by these rows the states are derivatives of the expression, each once, the first the expression itself: from each a byte leads to its
 -- derivative by the byte, and a text may end where that matches the empty text
