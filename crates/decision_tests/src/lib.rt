@@ -17,6 +17,8 @@ mod grammars;
 #[cfg(test)]
 mod listing;
 #[cfg(test)]
+mod patterns;
+#[cfg(test)]
 mod shown;
 mod sums;
 #[cfg(test)]
