@@ -1,23 +1,19 @@
 -- Rows of states, one after another, to the reader of an expression.
-use Rattle.std.proofs.Common.{◌≡◌, ◌<◌, ◌≤◌, ◌+◌, inl, inr, ℕ, zero, suc, Bool, true, false, List, [], ◌∷◌, ◌++◌, map, length, get_or, Contains, Option, Some, None, slice_get, length-append, refl, sym, ◌∙◌, ap, subst, arith}
+use Rattle.std.proofs.Common.{◌≡◌, ◌<◌, ◌≤◌, inl, inr, ℕ, zero, suc, Bool, true, false, List, [], ◌∷◌, ◌++◌, map, length, get_or, Option, Some, slice_get, length-append, refl, sym, ◌∙◌, ap, subst, arith}
 use Rattle.std.specs.Prelude.{if◌then◌else◌}
-use Rattle.std.specs.List.{All}
-use Rattle.std.specs.Option.{option_map}
 use Rattle.std.proofs.lemmas.Bool.{cases_lt}
 use Rattle.std.proofs.lemmas.List.Elements.{All-nil}
-use Rattle.std.proofs.lemmas.Option.{slice_get-map, slice_get_within, get_or_from_slice_get}
-use Rattle.text_base.specs.declared.page_token.PageToken.{PageToken}
+use Rattle.std.proofs.lemmas.Option.{slice_get_within, get_or_from_slice_get}
 use Rattle.numbered_sets.specs.Numbers.{Keeps, AreDifferent}
 use Rattle.derivatives.specs.Expressions.{Expr}
-use Rattle.derivatives.specs.Derivatives.{may_end, after, after_all}
-use Rattle.derivatives.specs.Standing.{expr_at, IsExpr, IsMade, Grows, HasEachOnce}
+use Rattle.derivatives.specs.Derivatives.{may_end, after}
+use Rattle.derivatives.specs.Standing.{expr_at, IsExpr, Grows, HasEachOnce}
 use Rattle.derivatives.specs.declared.arena.Arena.{Arena}
 use Rattle.derivatives.proofs.NodeLemmas.{expr_stays}
-use Rattle.grammar_chart.proofs.MemberLemmas.{contains_at, at_contains, at_below, at_push, all_by}
-use Rattle.policy_matching.specs.declared.rows.Run.{Run}
+use Rattle.grammar_chart.proofs.MemberLemmas.{at_contains, at_below, at_push, all_by}
 use Rattle.policy_matching.specs.declared.rows.Row.{Row}
-use Rattle.policy_matching.specs.Rows.{run_of, run_in, led, state_behind, told, told_in, told_at}
-use Rattle.policy_matching.specs.Outside.{IsBehind, HasDerivatives, StandsFor, AreBehind, Reaches, AreRuns, IsRow, AreRows, IsOutside}
+use Rattle.policy_matching.specs.Rows.{run_in, led, state_behind, told, told_in}
+use Rattle.policy_matching.specs.Outside.{IsBehind, HasDerivatives, StandsFor, AreBehind, Reaches, IsRow, AreRows, IsOutside}
 use Rattle.policy_matching.proofs.StateLemmas.{stands_on, found_none}
 
 row_on : (a b : Arena) (old new : List ℕ) (d : Expr) (row : Row) → Grows a b → Keeps old new → IsRow a old d row → IsRow b new d row
