@@ -1,4 +1,5 @@
-//! Tests of the decision: of summary_decision, page_decision, tag_sums and segment_summary.
+//! Tests of the decision: of summary_decision, page_decision, policy_matching, tag_sums and
+//! segment_summary.
 //! Answers over grammars that are made by hand and over drawn ones beside a plain listing, the
 //! derivation of a no node by node, which token lists are whole, and what is trimmed and written.
 //! Used by: none; it stands at the top.

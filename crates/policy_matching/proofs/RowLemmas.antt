@@ -1,23 +1,17 @@
 -- Rows of states, one after another, to the reader of an expression.
-use Rattle.std.proofs.Common.{◌≡◌, ◌<◌, ◌≤◌, ◌+◌, inl, inr, ℕ, zero, suc, Bool, true, false, List, [], ◌∷◌, ◌++◌, map, length, get_or, Contains, Option, Some, None, slice_get, length-append, refl, sym, ◌∙◌, ap, subst, arith}
-use Rattle.std.specs.Prelude.{if◌then◌else◌}
-use Rattle.std.specs.List.{All}
-use Rattle.std.specs.Option.{option_map}
+use Rattle.std.proofs.Common.{◌≡◌, ◌<◌, ◌≤◌, inl, inr, ℕ, zero, suc, List, [], ◌∷◌, ◌++◌, map, length, get_or, Option, Some, slice_get, length-append, refl, sym, ◌∙◌, ap, subst, arith}
 use Rattle.std.proofs.lemmas.Bool.{cases_lt}
-use Rattle.std.proofs.lemmas.List.Elements.{All-nil}
-use Rattle.std.proofs.lemmas.Option.{slice_get-map, slice_get_within, get_or_from_slice_get}
-use Rattle.text_base.specs.declared.page_token.PageToken.{PageToken}
+use Rattle.std.proofs.lemmas.Option.{slice_get_within, get_or_from_slice_get}
 use Rattle.numbered_sets.specs.Numbers.{Keeps, AreDifferent}
 use Rattle.derivatives.specs.Expressions.{Expr}
-use Rattle.derivatives.specs.Derivatives.{may_end, after, after_all}
-use Rattle.derivatives.specs.Standing.{expr_at, IsExpr, IsMade, Grows, HasEachOnce}
+use Rattle.derivatives.specs.Derivatives.{may_end, after}
+use Rattle.derivatives.specs.Standing.{expr_at, Grows, HasEachOnce}
 use Rattle.derivatives.specs.declared.arena.Arena.{Arena}
 use Rattle.derivatives.proofs.NodeLemmas.{expr_stays}
-use Rattle.grammar_chart.proofs.MemberLemmas.{contains_at, at_contains, at_below, at_push, all_by}
-use Rattle.policy_matching.specs.declared.rows.Run.{Run}
+use Rattle.grammar_chart.proofs.MemberLemmas.{at_contains, at_below, at_push, all_by}
 use Rattle.policy_matching.specs.declared.rows.Row.{Row}
-use Rattle.policy_matching.specs.Rows.{run_of, run_in, led, state_behind, told, told_in, told_at}
-use Rattle.policy_matching.specs.Outside.{IsBehind, HasDerivatives, StandsFor, AreBehind, Reaches, AreRuns, IsRow, AreRows, IsOutside}
+use Rattle.policy_matching.specs.Rows.{run_in, led, state_behind, told, told_in}
+use Rattle.policy_matching.specs.Outside.{IsBehind, HasDerivatives, StandsFor, AreBehind, Reaches, IsRow, AreRows, IsOutside}
 use Rattle.policy_matching.proofs.StateLemmas.{stands_on, found_none}
 
 row_on : (a b : Arena) (old new : List ℕ) (d : Expr) (row : Row) → Grows a b → Keeps old new → IsRow a old d row → IsRow b new d row
@@ -27,27 +21,6 @@ row_on a b old new d row grows keeps is = record {
     before = is.runs.before;
     lead = λ c below. let o = is.runs.lead c below in (o.0, o.1, stands_on a b old new o.0.to (after c d) grows keeps o.2);
   };
-}
-
--- a set with one member
-pub first_alone : (old new : List ℕ) (n root : ℕ) (is_new : Bool) → old ≡ [] → new ≡ (if is_new then old ++ root ∷ [] else old) → slice_get new n ≡ Some root
-    → new ≡ root ∷ []
-first_alone old new n root true none e at = e ∙ ap (λ (xs : List ℕ). xs ++ root ∷ []) none
-first_alone old new n root false none e at = let nothing : slice_get [] n ≡ Some root = subst (λ (xs : List ℕ). slice_get xs n ≡ Some root) (e ∙ none) at in cc
-
-one_alone : (places : List ℕ) (root n q : ℕ) → places ≡ root ∷ [] → slice_get places n ≡ Some q → root ≡ q
-one_alone places root n q e at = by n (subst (λ (xs : List ℕ). slice_get xs n ≡ Some q) e at)
-  where
-    by : (m : ℕ) → slice_get (root ∷ []) m ≡ Some q → root ≡ q
-    by zero h = cc
-    by (suc m) h = cc
-
-pub rows_none : (a : Arena) (root : ℕ) (places : List ℕ) → IsExpr a root → places ≡ root ∷ [] → AreRows (expr_at a root) a places []
-rows_none a root places is e = record {
-  first = record { place = root; placed = ap (λ (xs : List ℕ). slice_get xs 0) e; made = record { is_expr = is; is = refl } };
-  are = λ n q at. subst (λ (p : ℕ). IsExpr a p × IsBehind (expr_at a root) (expr_at a p)) (one_alone places root n q e at) (is, ([], All-nil (λ (b : ℕ). b < 256), refl));
-  few = omega arith;
-  each = λ n row at. cc;
 }
 
 pub rows_more : (e : Expr) (a b : Arena) (old new : List ℕ) (rows : List Row) (row : Row) (place : ℕ) → AreRows e a old rows → Grows a b

@@ -1,7 +1,6 @@
 -- States that are added, and the runs that lead to them.
 use Rattle.std.proofs.Common.{◌≡◌, ◌<◌, ◌≤◌, ◌+◌, ◌⊎◌, inl, inr, ℕ, suc, Bool, true, false, nat_le, List, [], ◌∷◌, ◌++◌, Contains, Option, Some, None, slice_get, refl, sym, ◌∙◌, ap, subst, arith}
 use Rattle.std.specs.Prelude.{if◌then◌else◌}
-use Rattle.std.specs.List.{All}
 use Rattle.std.proofs.lemmas.Bool.Decides.{nat_tests}
 use Rattle.std.proofs.lemmas.Bool.{cases_lt, leb-true, leb-false}
 use Rattle.std.proofs.lemmas.List.Elements.{All-push, Contains-push_cases}
@@ -56,9 +55,6 @@ one_more a b old new place to byte grows keeps adds small made = record {
     by e behind are q (inr same) =
         subst (λ (p : ℕ). IsExpr b p × IsBehind e (expr_at b p)) (sym same) (made.is_expr, subst (IsBehind e) (sym made.is) (behind_on e (expr_at a place) byte small behind))
 
-pub reaches_none : (a : Arena) (old : List ℕ) (place : ℕ) → Reaches a a old old place
-reaches_none a old place = record { keeps = λ n q h. h; are = λ e behind are. are }
-
 pub reaches_both : (a b c : Arena) (old mid new : List ℕ) (place : ℕ) → Grows a b → IsExpr a place → Reaches a b old mid place → Reaches b c mid new place
     → Reaches a c old new place
 reaches_both a b c old mid new place grows is x y = record {
@@ -100,9 +96,6 @@ found_none b [] before = refl
 found_none b (r ∷ runs) before =
     ap (λ (x : Bool). if x then Some r else run_of b runs) (le_not b r.last (before r (in_front r runs)))
     ∙ found_none b runs (λ q c. before q (further r q runs c))
-
-pub runs_none : (a : Arena) (places : List ℕ) (e : Expr) → AreRuns a places e 0 []
-runs_none a places e = record { before = λ run c. absurd (omega (arith, c.1)); lead = λ b h. absurd (omega (arith, h)) }
 
 pub runs_more : (a b : Arena) (old new : List ℕ) (e : Expr) (end : ℕ) (runs : List Run) (more : Run) → Grows a b → Keeps old new → end ≤ more.last
     → AreRuns a old e end runs → ((c : ℕ) → end ≤ c → c ≤ more.last → StandsFor b new more.to (after c e)) → AreRuns b new e (more.last + 1) (runs ++ more ∷ [])

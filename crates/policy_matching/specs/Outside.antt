@@ -1,5 +1,5 @@
 -- The derivatives of an expression as numbered states.
-use Rattle.std.specs.Prelude.{◌≡◌, ◌<◌, ◌≤◌, ℕ, List, [], length, All, Contains, Some, slice_get}
+use Rattle.std.specs.Prelude.{◌≡◌, ◌<◌, ◌≤◌, ℕ, List, length, All, Contains, Some, slice_get}
 use Rattle.numbered_sets.specs.Numbers.{Keeps, AreDifferent}
 use Rattle.derivatives.specs.Expressions.{Expr}
 use Rattle.derivatives.specs.Derivatives.{may_end, after, after_all}
