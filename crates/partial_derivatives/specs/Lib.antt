@@ -1,0 +1,3 @@
+pub mod Exactness
+pub mod Parts
+pub mod Laws

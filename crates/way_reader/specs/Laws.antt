@@ -1,0 +1,40 @@
+-- The laws, as statements.
+use Rattle.std.specs.Prelude.{◌≡◌, ◌⊎◌, ◌↔◌, ◌<◌, ℕ, List, [], ◌∷◌, ◌++◌, Some, All}
+use Rattle.text_base.specs.declared.page_token.PageToken.{PageToken}
+use Rattle.byte_readers.specs.Reading.{emitted, tokens_over}
+use Rattle.derivatives.specs.declared.arena.Arena.{Arena}
+use Rattle.piece_steps.specs.Languages.{Language}
+use Rattle.piece_steps.specs.Readers.{all_tokens}
+use Rattle.piece_steps.specs.Reads.{Reads}
+use Rattle.page_model.specs.Places.{Place, at_beginning}
+use Rattle.partial_derivatives.specs.Parts.{InTurn}
+use Rattle.way_reader.specs.declared.way.Way.{Way}
+use Rattle.way_reader.specs.Ways.{place_of, way_reader, first_state, next_state, tokens_at, tokens_behind}
+
+-- the text is one of this way, which gives these tokens and leads to this place
+abbrev pub IsOfWay : Arena → Way → List ℕ → List PageToken → Place → Type 0
+IsOfWay a way w tokens to = InTurn a way.parts w × (emitted way.emit ≡ tokens) × (place_of way.to ≡ to)
+
+-- and so it is of one of the ways
+abbrev pub IsOfSome : Arena → List Way → List ℕ → List PageToken → Place → Type 0
+IsOfSome a [] w tokens to = ⊥
+IsOfSome a (way ∷ ways) w tokens to = IsOfWay a way w tokens to ⊎ IsOfSome a ways w tokens to
+
+-- the text is a lawful piece at this place, which gives these tokens and leads to that place
+abbrev pub IsOfPiece : {Q : Type 0} → Language Place Q PageToken → Place → List ℕ → List PageToken → Place → Type 0
+IsOfPiece {Q} l place w tokens to = (q : Q) × l.Lawful place q × (l.spell q ≡ w) × (l.tokens q ≡ tokens) × (l.after place q ≡ to)
+
+-- the ways in which pieces begin have the texts of the lawful pieces there, each piece has some symbol, and none goes on where another ends
+pub record HavePieces {Q : Type 0} (l : Language Place Q PageToken) (a : Arena) (starts : Place → List Way) : Type 0 where
+  pub texts : (place : Place) (w : List ℕ) (tokens : List PageToken) (to : Place) → IsOfSome a (starts place) w tokens to ↔ IsOfPiece l place w tokens to
+  pub filled : (place : Place) (q : Q) → l.Lawful place q → l.spell q ≡ [] → ⊥
+  pub alone : (place : Place) (q r : Q) (v : List ℕ) → l.Lawful place q → l.Lawful place r → l.spell q ++ v ≡ l.spell r → (v ≡ []) × (q ≡ r)
+
+-- then the reader reads these pieces, and nothing else
+abbrev pub WaysAreRead : Type 1
+WaysAreRead = (Q : Type 0) (l : Language Place Q PageToken) (a : Arena) (starts : Place → List Way) → HavePieces l a starts → Reads l (way_reader a starts)
+
+-- in memory it puts out the same over each text of bytes
+abbrev pub PutsTheSame : Type 0
+PutsTheSame = (a : Arena) (starts : Place → List Way) (text : List ℕ) → All (λ byte. byte < 256) text
+    → tokens_over (next_state a starts) (tokens_at a starts) (tokens_behind a starts) first_state text ≡ all_tokens (way_reader a starts) (Some ((way_reader a starts).first at_beginning)) text

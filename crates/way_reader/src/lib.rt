@@ -1,0 +1,8 @@
+//! A reader whose states are ways.
+#![tactic(auto)]
+
+mod laws;
+mod way;
+
+pub use laws::{puts_the_same, ways_are_read};
+pub use way::{WayState, Spot, Way};
