@@ -2,3 +2,4 @@ pub mod Joined
 pub mod Fits
 pub mod Behind
 pub mod InTurn
+pub mod Alike

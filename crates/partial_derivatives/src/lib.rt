@@ -10,6 +10,6 @@ mod laws;
 mod part;
 mod row;
 
-pub use laws::{bytes_are_taken_in_turn, parts_end_in_turn};
+pub use laws::{bytes_are_taken_in_turn, classes_are_taken_in_turn, parts_end_in_turn};
 pub use part::{Member, Part};
 pub use row::Row;

@@ -1,6 +1,6 @@
 //! What is still to come of an expression: parts, one behind another.
 
-ghost use Rattle.partial_derivatives.specs.Exactness.{exact_member, exact_part};
+ghost use Rattle.partial_derivatives.specs.PartExactness.{exact_member, exact_part};
 
 use crate::row::Row;
 use text_base::Exact;

@@ -180,7 +180,7 @@ taken a starts (b ∷ bs) o to tokens rest e =
           text_read = b ∷ [];
           is = ap (λ (z : List ℕ). b ∷ z) (sym w.left);
           of = subst (λ (z : Place). IsOfSome a (live starts o) (b ∷ []) tokens z) w.place
-            (subst (λ (z : List PageToken). IsOfSome a (live starts o) (b ∷ []) z (place_of x.to)) w.tokens (f [] (emitted x.emit) (place_of x.to) (ended_is a gs x q)));
+              (subst (λ (z : List PageToken). IsOfSome a (live starts o) (b ∷ []) z (place_of x.to)) w.tokens (f [] (emitted x.emit) (place_of x.to) (ended_is a gs x q)));
         }
     at [] f None q e ih = cc
     at (g ∷ gs) f None q e ih =

@@ -9,7 +9,8 @@ use Rattle.text_base.specs.contracts.page_token.PageTokenPartialEq.TheImpl as to
 use Rattle.byte_readers.specs.declared.emit.Emit.{Emit}
 use Rattle.byte_readers.specs.declared.emit.Emit.TheVariants.{Nothing, One, Two}
 use Rattle.byte_readers.specs.contracts.emit.EmitPartialEq.TheImpl as emits
-use Rattle.partial_derivatives.specs.Exactness.{exact_row, exact_part}
+use Rattle.partial_derivatives.specs.Exactness.{exact_row}
+use Rattle.partial_derivatives.specs.PartExactness.{exact_part}
 use Rattle.partial_derivatives.specs.declared.part.Part.{Part}
 use Rattle.partial_derivatives.specs.contracts.part.PartPartialEq.TheImpl as parts
 use Rattle.way_reader.specs.declared.way.Spot.{Spot}

@@ -5,4 +5,4 @@ mod laws;
 mod way;
 
 pub use laws::{puts_the_same, ways_are_read};
-pub use way::{WayState, Spot, Way};
+pub use way::{Spot, Way, WayState};
