@@ -1,15 +1,15 @@
 -- The rows that a byte leaves match what the derivative matches, with what stands behind it.
 use Rattle.std.proofs.Common.{◌≡◌, ◌⊎◌, inl, inr, ℕ, Bool, true, false, List, [], ◌∷◌, ◌++◌, refl, sym, ◌∙◌, ap, subst, append_assoc}
 use Rattle.std.specs.Prelude.{if◌then◌else◌}
-use Rattle.derivatives.specs.Expressions.{Expr, nothing, empty, range, chain, either, star, among, Members, none, member, lies, Joins, at_once, on, Matches, is_empty, is_chain, is_left, is_right}
+use Rattle.derivatives.specs.Expressions.{Expr, nothing, empty, range, chain, either, star, among, Members, none, member, lies, Joins, at_once, Matches, is_empty, is_chain, is_left, is_right}
 use Rattle.derivatives.specs.Derivatives.{may_end, chain_of, either_of, among_of, when, onto, after, after_members}
 use Rattle.derivatives.specs.Standing.{expr_at, members_at}
 use Rattle.derivatives.specs.declared.arena.Arena.{Arena}
-use Rattle.derivatives.proofs.NormalForms.{chain_shown, chain_made, either_shown, either_made, among_shown, among_made, when_shown}
+use Rattle.derivatives.proofs.NormalForms.{chain_shown, chain_made, either_shown, either_made, among_shown, among_made}
 use Rattle.partial_derivatives.specs.declared.part.Member.{Member}
 use Rattle.partial_derivatives.specs.declared.part.Part.{Part}
 use Rattle.partial_derivatives.specs.declared.part.Part.TheVariants.{Whole, Among}
-use Rattle.partial_derivatives.specs.Parts.{first_at, second_at, members_from, part_expr, InTurn, all_over, goes_on, listed, behind, behind_list, behind_members, behind_part}
+use Rattle.partial_derivatives.specs.Parts.{first_at, second_at, members_from, part_expr, InTurn, goes_on, listed, behind, behind_list, behind_members, behind_part}
 use Rattle.partial_derivatives.specs.Laws.{OneMatches}
 use Rattle.partial_derivatives.proofs.Joined.{assoc, assoc_back, nothing_before, one_left, one_right, one_of}
 use Rattle.partial_derivatives.proofs.Fits.{fit_at, fit_list}

@@ -1,8 +1,8 @@
 -- What a byte leaves of parts in turn matches exactly what may follow it.
-use Rattle.std.proofs.Common.{◌≡◌, ◌⊎◌, inl, inr, ℕ, Bool, true, false, List, [], ◌∷◌, ◌++◌, refl, subst}
-use Rattle.std.specs.Prelude.{if◌then◌else◌, ◌&&◌}
+use Rattle.std.proofs.Common.{◌≡◌, ◌⊎◌, inl, inr, ℕ, Bool, true, false, List, [], ◌∷◌, refl}
+use Rattle.std.specs.Prelude.{if◌then◌else◌}
 use Rattle.std.proofs.lemmas.Bool.{and_parts, and_from}
-use Rattle.derivatives.specs.Expressions.{Expr, Joins, at_once, on, Matches}
+use Rattle.derivatives.specs.Expressions.{at_once, on}
 use Rattle.derivatives.specs.Derivatives.{may_end, after}
 use Rattle.derivatives.specs.declared.arena.Arena.{Arena}
 use Rattle.derivatives.proofs.After.{is_derivative}

@@ -5,15 +5,15 @@ use Rattle.text_base.specs.declared.page_token.PageToken.{PageToken}
 use Rattle.byte_readers.specs.Reading.{emitted}
 use Rattle.derivatives.specs.declared.arena.Arena.{Arena}
 use Rattle.piece_steps.specs.Languages.{Language}
-use Rattle.piece_steps.specs.Readers.{Move, go, done, fail, Outcome, whole, failed, stuck, next, ends}
+use Rattle.piece_steps.specs.Readers.{Move, go, Outcome, whole, next, ends}
 use Rattle.piece_steps.specs.Reads.{Begins, Reads}
 use Rattle.page_model.specs.Places.{Place}
 use Rattle.partial_derivatives.specs.declared.part.Part.{Part}
 use Rattle.way_reader.specs.declared.way.Way.{Way}
-use Rattle.partial_derivatives.specs.Parts.{InTurn, all_end, behind_parts}
+use Rattle.partial_derivatives.specs.Parts.{all_end, behind_parts}
 use Rattle.way_reader.specs.Ways.{Open, at_place, in_piece, place_of, ways_by, ways_behind, ended, live, move_by, way_step, is_inside, way_reader}
 use Rattle.partial_derivatives.specs.Laws.{OneMatches}
-use Rattle.way_reader.specs.Laws.{IsOfWay, IsOfSome, HavePieces, WaysAreRead}
+use Rattle.way_reader.specs.Laws.{IsOfSome, HavePieces}
 use Rattle.partial_derivatives.proofs.InTurn.{turn_shown, turn_made, ends_shown, ends_made}
 
 -- Live ways.
@@ -205,8 +205,8 @@ opens a starts s g b e = at (ways_behind a b (live starts s)) (ended a (ways_beh
     at [] None e = cc
     at (f ∷ gs) None e = let x : Open = in_piece (f ∷ gs) in ap is_inside (sym (same x g e))
 
-pub ways_are_read : WaysAreRead
-ways_are_read Q l a starts f = record {
+pub pieces_are_read : {Q : Type 0} (l : Language Place Q PageToken) (a : Arena) (starts : Place → List Way) → HavePieces l a starts → Reads l (way_reader a starts)
+pieces_are_read l a starts f = record {
   closed = λ place. refl;
   opens = λ s g b e. opens a starts s g b e;
   complete = λ place p rest h. complete l a starts f place p rest h;

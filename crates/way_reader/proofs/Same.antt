@@ -1,5 +1,5 @@
 -- In memory the reader puts out what it puts out as one of pieces.
-use Rattle.std.proofs.Common.{◌≡◌, ℕ, List, Option, Some, None, refl, ap}
+use Rattle.std.proofs.Common.{◌≡◌, List, Option, Some, None, refl, ap}
 use Rattle.byte_readers.specs.Mirrors.{Mirrors, state_behind}
 use Rattle.byte_readers.proofs.Same.{same_tokens}
 use Rattle.derivatives.specs.declared.arena.Arena.{Arena}

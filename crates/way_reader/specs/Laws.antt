@@ -2,11 +2,16 @@
 use Rattle.std.specs.Prelude.{◌≡◌, ◌⊎◌, ◌↔◌, ◌<◌, ℕ, List, [], ◌∷◌, ◌++◌, Some, All}
 use Rattle.text_base.specs.declared.page_token.PageToken.{PageToken}
 use Rattle.byte_readers.specs.Reading.{emitted, tokens_over}
+use Rattle.dtd_model.specs.Table.{Table}
 use Rattle.derivatives.specs.declared.arena.Arena.{Arena}
 use Rattle.piece_steps.specs.Languages.{Language}
 use Rattle.piece_steps.specs.Readers.{all_tokens}
 use Rattle.piece_steps.specs.Reads.{Reads}
+use Rattle.page_model.specs.PageTokens.{PageTokens}
 use Rattle.page_model.specs.Places.{Place, at_beginning}
+use Rattle.page_forms.specs.Forms.{forms, IsOfOne}
+use Rattle.form_reader.specs.FormReader.{byte_language}
+use Rattle.form_reader.specs.Laws.{IsLawfulTable}
 use Rattle.partial_derivatives.specs.Parts.{InTurn}
 use Rattle.way_reader.specs.declared.way.Way.{Way}
 use Rattle.way_reader.specs.Ways.{place_of, way_reader, first_state, next_state, tokens_at, tokens_behind}
@@ -30,11 +35,28 @@ pub record HavePieces {Q : Type 0} (l : Language Place Q PageToken) (a : Arena) 
   pub filled : (place : Place) (q : Q) → l.Lawful place q → l.spell q ≡ [] → ⊥
   pub alone : (place : Place) (q r : Q) (v : List ℕ) → l.Lawful place q → l.Lawful place r → l.spell q ++ v ≡ l.spell r → (v ≡ []) × (q ≡ r)
 
--- then the reader reads these pieces, and nothing else
-abbrev pub WaysAreRead : Type 1
-WaysAreRead = (Q : Type 0) (l : Language Place Q PageToken) (a : Arena) (starts : Place → List Way) → HavePieces l a starts → Reads l (way_reader a starts)
+-- the ways in which pieces of a page begin have the texts of the forms there
+abbrev pub HaveForms : Table → Arena → (Place → List Way) → Type 0
+HaveForms table a starts = (place : Place) (w : List ℕ) (tokens : List PageToken) (to : Place)
+    → IsOfSome a (starts place) w tokens to ↔ IsOfOne (forms table place) w tokens to
 
--- in memory it puts out the same over each text of bytes
+-- then, by each lawful definition, the reader reads the pieces of a page, and nothing else
+abbrev pub WaysAreRead : Type 0
+WaysAreRead = (table : Table) → IsLawfulTable table → (a : Arena) (starts : Place → List Way) → HaveForms table a starts
+    → Reads (byte_language table) (way_reader a starts)
+
+-- over each page of bytes the reader in memory puts out the tokens of the page
+abbrev pub IsWayReaderOf : Table → Arena → (Place → List Way) → Type 0
+IsWayReaderOf table a starts = (page : List ℕ) → All (λ byte. byte < 256) page
+    → PageTokens table page (tokens_over (next_state a starts) (tokens_at a starts) (tokens_behind a starts) first_state page)
+
+-- and so it is, by each lawful definition
+abbrev pub PagesAreRead : Type 0
+PagesAreRead = (table : Table) → IsLawfulTable table → (a : Arena) (starts : Place → List Way) → HaveForms table a starts
+    → IsWayReaderOf table a starts
+
+-- whatever the ways are, in memory the reader puts out over each text of bytes what it puts out as one of pieces
 abbrev pub PutsTheSame : Type 0
 PutsTheSame = (a : Arena) (starts : Place → List Way) (text : List ℕ) → All (λ byte. byte < 256) text
-    → tokens_over (next_state a starts) (tokens_at a starts) (tokens_behind a starts) first_state text ≡ all_tokens (way_reader a starts) (Some ((way_reader a starts).first at_beginning)) text
+    → tokens_over (next_state a starts) (tokens_at a starts) (tokens_behind a starts) first_state text
+    ≡ all_tokens (way_reader a starts) (Some ((way_reader a starts).first at_beginning)) text

@@ -1,14 +1,19 @@
 //! The laws. Each function does nothing, and stands for the law that its contract states.
 
-ghost use Rattle.way_reader.specs.Laws.{PutsTheSame, WaysAreRead};
+ghost use Rattle.way_reader.specs.Laws.{PagesAreRead, PutsTheSame, WaysAreRead};
 
-/// Where pieces begin in the ways that their texts give, the reader reads the pieces and nothing
-/// else.
+/// Where pieces begin in ways that have the texts of the forms, the reader reads the pieces of a
+/// page and nothing else.
 pub fn ways_are_read()
     ensures { WaysAreRead }
 {}
 
-/// In memory the reader puts out the same over each text of bytes.
+/// So in memory it puts out the tokens of each page.
+pub fn pages_are_read()
+    ensures { PagesAreRead }
+{}
+
+/// Whatever the ways are, in memory the reader puts out what it puts out as one of pieces.
 pub fn puts_the_same()
     ensures { PutsTheSame }
 {}
