@@ -1,18 +1,20 @@
 -- The laws, as statements.
-use Rattle.std.specs.Prelude.{◌≡◌, ◌⊎◌, ◌↔◌, ◌<◌, ℕ, List, [], ◌∷◌, ◌++◌, Some, All}
+use Rattle.std.specs.Prelude.{◌≡◌, ◌⊎◌, ◌↔◌, ◌<◌, ⊤, ℕ, List, [], ◌∷◌, ◌++◌, Some, All}
 use Rattle.text_base.specs.declared.page_token.PageToken.{PageToken}
 use Rattle.byte_readers.specs.Reading.{emitted, tokens_over}
 use Rattle.dtd_model.specs.Table.{Table}
+use Rattle.derivatives.specs.Standing.{expr_at}
 use Rattle.derivatives.specs.declared.arena.Arena.{Arena}
 use Rattle.piece_steps.specs.Languages.{Language}
 use Rattle.piece_steps.specs.Readers.{all_tokens}
 use Rattle.piece_steps.specs.Reads.{Reads}
 use Rattle.page_model.specs.PageTokens.{PageTokens}
 use Rattle.page_model.specs.Places.{Place, at_beginning}
-use Rattle.page_forms.specs.Forms.{forms, IsOfOne}
+use Rattle.page_forms.specs.Forms.{Form, forms, IsOfOne}
 use Rattle.form_reader.specs.FormReader.{byte_language}
 use Rattle.form_reader.specs.Laws.{IsLawfulTable}
 use Rattle.partial_derivatives.specs.Parts.{InTurn}
+use Rattle.partial_derivatives.specs.declared.part.Part.TheVariants.{Whole}
 use Rattle.way_reader.specs.declared.way.Way.{Way}
 use Rattle.way_reader.specs.Ways.{place_of, way_reader, first_state, next_state, tokens_at, tokens_behind}
 
@@ -40,7 +42,27 @@ abbrev pub HaveForms : Table → Arena → (Place → List Way) → Type 0
 HaveForms table a starts = (place : Place) (w : List ℕ) (tokens : List PageToken) (to : Place)
     → IsOfSome a (starts place) w tokens to ↔ IsOfOne (forms table place) w tokens to
 
--- then, by each lawful definition, the reader reads the pieces of a page, and nothing else
+-- the way is the form as a whole
+pub record IsWhole (a : Arena) (way : Way) (f : Form) : Type 0 where
+  pub number : ℕ
+  pub parts : way.parts ≡ Whole number ∷ []
+  pub is : expr_at a number ≡ f.expression
+  pub tokens : emitted way.emit ≡ f.tokens
+  pub leads : place_of way.to ≡ f.leads_to
+
+-- and so it is with each of them, in their order
+abbrev pub AreWhole : Arena → List Way → List Form → Type 0
+AreWhole a [] [] = ⊤
+AreWhole a [] (f ∷ fs) = ⊥
+AreWhole a (way ∷ ways) [] = ⊥
+AreWhole a (way ∷ ways) (f ∷ fs) = IsWhole a way f × AreWhole a ways fs
+
+-- ways that are the forms as a whole have their texts
+abbrev pub WholeFormsHaveTexts : Type 0
+WholeFormsHaveTexts = (table : Table) (a : Arena) (starts : Place → List Way) → ((place : Place) → AreWhole a (starts place) (forms table place))
+    → HaveForms table a starts
+
+-- by each lawful definition, where the ways have the texts of the forms, the reader reads the pieces of a page, and nothing else
 abbrev pub WaysAreRead : Type 0
 WaysAreRead = (table : Table) → IsLawfulTable table → (a : Arena) (starts : Place → List Way) → HaveForms table a starts
     → Reads (byte_language table) (way_reader a starts)

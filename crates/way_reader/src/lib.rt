@@ -8,5 +8,5 @@
 mod laws;
 mod way;
 
-pub use laws::{pages_are_read, puts_the_same, ways_are_read};
+pub use laws::{pages_are_read, puts_the_same, ways_are_read, whole_forms_have_texts};
 pub use way::{Spot, Way, WayState};
