@@ -1,0 +1,5 @@
+pub mod Joined
+pub mod Fits
+pub mod Behind
+pub mod InTurn
+pub mod Alike

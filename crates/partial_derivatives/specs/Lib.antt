@@ -1,0 +1,5 @@
+pub mod Exactness
+pub mod PartExactness
+pub mod Parts
+pub mod Classes
+pub mod Laws

@@ -1,0 +1,15 @@
+//! What a byte leaves of expressions, as rows of parts: partial derivatives (Antimirov, 1996). A
+//! row names expressions of an arena by their numbers, so that it is made, compared and hashed by
+//! what is short.
+//! Promise: the rows that a byte leaves match exactly what may follow the byte
+//! (`bytes_are_taken_in_turn`: `ByteInTurn` of specs/Laws).
+//! Used by: way_reader.
+#![tactic(auto)]
+
+mod laws;
+mod part;
+mod row;
+
+pub use laws::{bytes_are_taken_in_turn, classes_are_taken_in_turn, parts_end_in_turn};
+pub use part::{Member, Part};
+pub use row::Row;

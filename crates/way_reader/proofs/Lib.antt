@@ -1,0 +1,4 @@
+pub mod Reading
+pub mod Same
+pub mod Pages
+pub mod Forms

@@ -1,0 +1,12 @@
+//! A reader of pages, byte by byte, whose state is the ways in which a piece can go on.
+//! Promise: where pieces begin in ways that have the texts of the forms of page_forms, it puts out
+//! exactly the tokens of each page (`pages_are_read`: `PagesAreRead` of specs/Laws, over
+//! `PageTokens` of page_model).
+//! Used by: none yet.
+#![tactic(auto)]
+
+mod laws;
+mod way;
+
+pub use laws::{pages_are_read, puts_the_same, ways_are_read, whole_forms_have_texts};
+pub use way::{Spot, Way, WayState};
