@@ -33,7 +33,8 @@ IsOfPiece {Q} l place w tokens to = (q : Q) × l.Lawful place q × (l.spell q �
 
 -- the ways in which pieces begin have the texts of the lawful pieces there, each piece has some symbol, and none goes on where another ends
 pub record HavePieces {Q : Type 0} (l : Language Place Q PageToken) (a : Arena) (starts : Place → List Way) : Type 0 where
-  pub texts : (place : Place) (w : List ℕ) (tokens : List PageToken) (to : Place) → IsOfSome a (starts place) w tokens to ↔ IsOfPiece l place w tokens to
+  pub texts : (place : Place) (w : List ℕ) (tokens : List PageToken) (to : Place)
+      → IsOfSome a (starts place) w tokens to ↔ IsOfPiece l place w tokens to
   pub filled : (place : Place) (q : Q) → l.Lawful place q → l.spell q ≡ [] → ⊥
   pub alone : (place : Place) (q r : Q) (v : List ℕ) → l.Lawful place q → l.Lawful place r → l.spell q ++ v ≡ l.spell r → (v ≡ []) × (q ≡ r)
 
@@ -59,7 +60,8 @@ AreWhole a (way ∷ ways) (f ∷ fs) = IsWhole a way f × AreWhole a ways fs
 
 -- ways that are the forms as a whole have their texts
 abbrev pub WholeFormsHaveTexts : Type 0
-WholeFormsHaveTexts = (table : Table) (a : Arena) (starts : Place → List Way) → ((place : Place) → AreWhole a (starts place) (forms table place))
+WholeFormsHaveTexts = (table : Table) (a : Arena) (starts : Place → List Way)
+    → ((place : Place) → AreWhole a (starts place) (forms table place))
     → HaveForms table a starts
 
 -- by each lawful definition, where the ways have the texts of the forms, the reader reads the pieces of a page, and nothing else
