@@ -27,6 +27,7 @@ install:
 	install -D -m 755 tools/launcher "$(into)/bin/phpsa"
 	install -D -m 644 docs/phpsa.1 "$(into)/share/man/man1/phpsa.1"
 	install -D -m 644 LICENSE "$(into)/share/doc/phpsa/LICENSE"
+	install -D -m 644 examples/stubs/env.php "$(into)/share/doc/phpsa/examples/stubs/env.php"
 	install -D -m 644 tools/completions/phpsa.bash "$(into)/share/bash-completion/completions/phpsa"
 	install -D -m 644 tools/completions/_phpsa "$(into)/share/zsh/site-functions/_phpsa"
 	install -D -m 644 tools/completions/phpsa.fish "$(into)/share/fish/vendor_completions.d/phpsa.fish"

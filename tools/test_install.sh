@@ -105,6 +105,7 @@ cat >"$room/wanted" <<'LIST'
 ./usr/lib/phpsa/phpsa
 ./usr/share/bash-completion/completions/phpsa
 ./usr/share/doc/phpsa/LICENSE
+./usr/share/doc/phpsa/examples/stubs/env.php
 ./usr/share/fish/vendor_completions.d/phpsa.fish
 ./usr/share/man/man1/phpsa.1
 ./usr/share/zsh/site-functions/_phpsa
@@ -172,6 +173,7 @@ answers() {
   writes 'phpsa check FILE' out
   ends 0 "$phpsa" --version
   writes 'phpsa 0.1.0' out
+  writes 'gate: ' out
   ends 16 "$phpsa" check $'\xff.php'
   writes 'phpsa: Words 2' err
 }
