@@ -39,8 +39,8 @@ AreExpressions arena places = (n place : ℕ) → slice_get places n ≡ Some pl
 abbrev pub AreBehind : Expr → Arena → List ℕ → Type 0
 AreBehind e arena places = (n place : ℕ) → slice_get places n ≡ Some place → IsExpr arena place × IsBehind e (expr_at arena place)
 
--- states are added that are reached from the one at the place: the old ones keep their numbers, and all are derivatives of what that one and
--- the old ones are derivatives of
+-- states are added that are reached from the one at the place: the old ones keep their numbers, and all are derivatives of what that one
+-- and the old ones are derivatives of
 pub record Reaches (before behind : Arena) (old new : List ℕ) (place : ℕ) : Type 0 where
   pub keeps : Keeps old new
   pub are : (e : Expr) → IsBehind e (expr_at before place) → AreBehind e before old → AreBehind e behind new

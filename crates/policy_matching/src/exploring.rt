@@ -129,8 +129,8 @@ fn add_row(
 ///
 /// # Errors
 ///
-/// `States` only where the expression has at least so many derivatives, over `STATE_LIMIT`. `Memory`
-/// may come at any time.
+/// `States` only where the expression has at least so many derivatives, over `STATE_LIMIT`.
+/// `Memory` may come at any time.
 pub(crate) fn outside_of(
     alloc: Global,
     arena: &mut Arena,
@@ -138,7 +138,8 @@ pub(crate) fn outside_of(
 ) -> Result<Outside, StatesRefusal>
     requires { IsExpr arena.old root }
     ensures grows { Grows arena.old arena.new }
-    ensures outside { IfOk result (λ outside. IsOutside (expr_at arena.old root) outside.rows.items) }
+    ensures outside { IfOk result
+        (λ outside. IsOutside (expr_at arena.old root) outside.rows.items) }
     ensures cause { IfErr result (IsStatesCause (expr_at arena.old root)) }
 {
     let mut places = IndexSet::new(alloc);

@@ -19,8 +19,8 @@ use page_decision::{find_wrong, texts_fit};
 use std::alloc::Global;
 use text_base::NoMemory;
 
-/// The most different sums of the sentences of a nonterminal by the tokens of the reader: a sentence
-/// has a bad token or none.
+/// The most different sums of the sentences of a nonterminal by the tokens of the reader: a
+/// sentence has a bad token or none.
 const SUMS: u64 = 2;
 
 /// The answer by the reader of an expression.
@@ -46,8 +46,8 @@ fn match_by(
 
 /// Whether each text that the grammar derives matches the expression with this number, with at most
 /// `items` items of the image. Linear in the grammar for one expression: its derivatives are listed
-/// before, up to `STATE_LIMIT`. For want of memory too each number of the arena goes on to stand for
-/// what it stood for.
+/// before, up to `STATE_LIMIT`. For want of memory too each number of the arena goes on to stand
+/// for what it stood for.
 pub fn match_all(
     alloc: Global,
     grammar: &Grammar,
