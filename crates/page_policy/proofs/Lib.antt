@@ -2,4 +2,9 @@ pub mod Reading
 pub mod Fitting
 pub mod Bytes
 pub mod Parts
+pub mod Ranges
+pub mod Classes
+pub mod Cutting
+pub mod Forms
+pub mod Building
 pub mod Examples

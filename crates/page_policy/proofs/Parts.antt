@@ -30,7 +30,7 @@ not_behind_end : {rs : List (ℕ × ℕ)} {x w : List ℕ} → Ranges rs (93 ∷
 not_behind_end (last e) = none_read e
 not_behind_end (more e d) = none_read e
 
-not_with_hat : {rs : List (ℕ × ℕ)} {x w : List ℕ} → Ranges rs (94 ∷ x) w → ⊥
+pub not_with_hat : {rs : List (ℕ × ℕ)} {x w : List ℕ} → Ranges rs (94 ∷ x) w → ⊥
 not_with_hat (last e) = none_read e
 not_with_hat (more e d) = none_read e
 

@@ -1,6 +1,6 @@
 //! Patterns are put together from the right.
 
-ghost use Rattle.std.specs.Prelude.{◌≡◌, ⊥, true, false, [], List, Option, None, IfOk, OnOk, MatchOption};
+ghost use Rattle.std.specs.Prelude.{◌≡◌, [], List, Option, None, IfOk, OnOk, MatchOption};
 ghost use Rattle.page_policy.specs.Patterns.{void, seq};
 ghost use Rattle.page_policy.specs.Patterns.{Pattern as Plain};
 ghost use Rattle.page_policy.specs.Machine.{PlainPart, State, wrong, at, put, state_of, Outer};

@@ -1,6 +1,6 @@
 //! A pattern file is cut into its parts.
 
-ghost use Rattle.std.specs.Prelude.{◌≡◌, ◌×◌, ⊥, true, false, List, IfOk};
+ghost use Rattle.std.specs.Prelude.{◌≡◌, List, IfOk};
 ghost use Rattle.page_policy.specs.Machine.{PlainPart, Cut};
 ghost use Rattle.page_policy.specs.Cuts.{IsCut};
 
@@ -10,6 +10,7 @@ use std::alloc::Global;
 use text_base::NoMemory;
 
 /// The brackets that are open, and the place of the first that closes none.
+#[derive(Drop)]
 struct Balance {
     depth: usize,
     stray: Option<usize>,

@@ -1,12 +1,13 @@
 //! The expressions of the parts of a pattern.
 
-ghost use Rattle.std.specs.Prelude.{◌≡◌, ◌≤◌, ℕ, Bool, List, IfOk};
+ghost use Rattle.std.specs.Prelude.{◌≡◌, ◌≤◌, ◌<◌, ℕ, Bool, List, IfOk, IfSome};
 ghost use Rattle.derivatives.specs.Expressions.{range};
 ghost use Rattle.derivatives.specs.Derivatives.{either_of};
 ghost use Rattle.derivatives.specs.Standing.{IsExpr, IsMade, Grows, expr_at};
 ghost use Rattle.page_policy.specs.Patterns.{byte_of, is_meant};
 ghost use Rattle.page_policy.specs.Patterns.{Pattern as Plain};
 ghost use Rattle.page_policy.specs.Machine as spec;
+ghost use Rattle.page_policy.specs.Runs.{IsLonger};
 ghost use Rattle.page_policy.specs.Views.{IsClass, IsForm};
 
 use crate::part::{ByteClass, Repeat};
@@ -39,31 +40,53 @@ fn or_range(arena: &mut Arena, low: u8, high: u8, form: usize) -> Result<usize, 
     arena.either(bytes, form)
 }
 
-/// A byte of a class: neighbours that are meant are one range.
-pub(crate) fn class_form(arena: &mut Arena, class: &ByteClass) -> Result<usize, NoMemory>
-    ensures made { (out : Bool) (rs : List (ℕ × ℕ)) → IsClass class.now out rs
-        → IfOk result (λ r. IsForm arena.new r (byte_of out rs)) }
+/// The bytes of a class from some byte on: an expression, and the last byte of a run that begins at
+/// that byte and may go on below it.
+#[derive(Clone, Copy)]
+pub(crate) struct Run {
+    pub(crate) form: usize,
+    pub(crate) last: Option<u8>,
+}
+
+/// One byte more, below the others.
+fn with_byte(arena: &mut Arena, is_meant: bool, byte: u8, run: Run) -> Result<Run, NoMemory>
+    requires form { IsExpr arena.old run.form }
+    requires wide { IfSome run.last (λ last. byte < last) }
+    ensures made { IfOk result (λ r. IsLonger is_meant byte arena.old run arena.new r) }
     ensures keeps { Grows arena.old arena.new }
 {
-    let mut form = arena.nothing()?;
-    let mut last = None;
+    match (is_meant, run.last) {
+        (true, None) => Ok(Run {
+            form: run.form,
+            last: Some(byte),
+        }),
+        (true, Some(_)) | (false, None) => Ok(run),
+        (false, Some(last)) => {
+            let form = or_range(arena, byte + 1, last, run.form)?;
+            Ok(Run { form, last: None })
+        }
+    }
+}
+
+/// A byte of a class: neighbours that are meant are one range.
+pub(crate) fn class_form(arena: &mut Arena, class: &ByteClass) -> Result<usize, NoMemory>
+    ensures made { IfOk result (λ r. (out : Bool) (rs : List (ℕ × ℕ)) → IsClass class.now out rs
+        → IsForm arena.new r (byte_of out rs)) }
+    ensures keeps { Grows arena.old arena.new }
+{
+    let mut run = Run {
+        form: arena.nothing()?,
+        last: None,
+    };
     let mut below = 256_usize;
     while below > 0 {
-        let byte = (below - 1) as u8;
-        if class.has(byte) {
-            last = Some(last.unwrap_or(byte));
-            below -= 1;
-            continue;
-        }
-        if let Some(end) = last {
-            form = or_range(arena, below as u8, end, form)?;
-            last = None;
-        }
         below -= 1;
+        let byte = below as u8;
+        run = with_byte(arena, class.has(byte), byte, run)?;
     }
-    match last {
-        Some(end) => or_range(arena, 0, end, form),
-        None => Ok(form),
+    match run.last {
+        Some(last) => or_range(arena, 0, last, run.form),
+        None => Ok(run.form),
     }
 }
 

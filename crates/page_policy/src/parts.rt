@@ -1,14 +1,26 @@
 //! The parts at the head of a pattern file.
 
-ghost use Rattle.std.specs.Prelude.{◌≡◌, ◌<◌, ⊥, ℕ, Bool, List, length, IfSome, IfNone};
+ghost use Rattle.std.specs.Prelude.{◌≡◌, ◌<◌, ◌+◌, ◌∷◌, [], ℕ, Bool, false, List, length, IfSome, IfNone, MatchOption};
 ghost use Rattle.page_policy.specs.Grammar.{Ranges, Byte};
 ghost use Rattle.page_policy.specs.Machine.{PlainPart, PartAt, repeat_at};
 ghost use Rattle.page_policy.specs.Machine as spec;
-ghost use Rattle.page_policy.specs.Views.{ReadsRanges, ReadsClass, ReadsPart, repeat_read};
+ghost use Rattle.page_policy.specs.Views.{IsClass, ReadsRanges, ReadsClass, ReadsPart, repeat_read};
 
 use crate::bytes::{byte_at, range_at};
 use crate::part::{ByteClass, Part, Repeat};
 use text_base::{ByteRange, ByteSet};
+
+/// What stands behind the bracket that ends a set, if it stands at the head.
+fn behind_set(bytes: &[u8]) -> Option<&[u8]>
+    ensures { MatchOption result ((w : List ℕ) → bytes.now ≡ 93 ∷ w → ⊥)
+        (λ r. bytes.now ≡ 93 ∷ r.now) }
+{
+    match bytes.split_first() {
+        Some((end, rest)) if *end == 93 => Some(rest),
+        Some(_) => None,
+        None => None,
+    }
+}
 
 /// The ranges of a set and the bracket that ends it.
 fn ranges_at(bytes: &[u8]) -> Option<(ByteSet, &[u8])>
@@ -21,10 +33,8 @@ fn ranges_at(bytes: &[u8]) -> Option<(ByteSet, &[u8])>
     let mut rest = bytes;
     while let Some((range, others)) = range_at(rest) {
         set.add(range);
-        if let Some((end, behind)) = others.split_first() {
-            if *end == 93 {
-                return Some((set, behind));
-            }
+        if let Some(behind) = behind_set(others) {
+            return Some((set, behind));
         }
         rest = others;
     }

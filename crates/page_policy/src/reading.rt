@@ -1,6 +1,6 @@
 //! Pattern files are read.
 
-ghost use Rattle.std.specs.Prelude.{◌≡◌, ⊥, [], length, IfOk, IfErr};
+ghost use Rattle.std.specs.Prelude.{◌≡◌, [], IfOk, IfErr};
 ghost use Rattle.page_policy.specs.Patterns.{Pattern as Plain};
 ghost use Rattle.page_policy.specs.Grammar.{Alt, body_of};
 ghost use Rattle.page_policy.specs.Refusals.{IsTaken, IsCause};

@@ -6,6 +6,7 @@ ghost use Rattle.page_policy.specs.Refusals.{too_deep, deep_at};
 use crate::refusal::OPEN_LIMIT;
 
 /// Where a scan is: behind a backslash, inside of a set of bytes, and within how many brackets.
+#[derive(Drop)]
 struct Scan {
     escaped: bool,
     inside: bool,
