@@ -8,7 +8,7 @@ use Rattle.page_policy.specs.Patterns.{Pattern, byte_of, void, seq, alt, any, so
 use Rattle.page_policy.specs.Grammar.{Ranges, last, more, Byte, dot, itself, inside, outside, Alt, one, or, Row, over, on, Item, once, times, plus, perhaps, Atom, byte, bracket, Spells, range_at}
 use Rattle.page_policy.specs.Refusals.{deep_at}
 use Rattle.page_policy.specs.Machine.{Cut, all, further, PartAt, opens, closes, bars, is_byte}
-use Rattle.page_policy.proofs.Reading.{unread}
+use Rattle.page_policy.proofs.SpellLemmas.{unread}
 
 ends_there : (v : List ℕ) → Joins v [] v
 ends_there [] = at_once

@@ -1,6 +1,6 @@
 //! Single bytes and ranges of a pattern file.
 
-ghost use Rattle.std.specs.Prelude.{◌≡◌, ◌<◌, true, length, IfSome};
+ghost use Rattle.std.specs.Prelude.{◌≡◌, ◌<◌, ◌+◌, true, length, IfSome};
 ghost use Rattle.std.specs.Char.{is_ascii_hexdigit, digit_value};
 ghost use Rattle.page_policy.specs.Grammar as spec;
 ghost use Rattle.page_policy.specs.Views.{byte_read, range_read, signs};

@@ -41,6 +41,20 @@ fn ranges_at(bytes: &[u8]) -> Option<(ByteSet, &[u8])>
     None
 }
 
+/// The bytes of a set, or all others.
+fn class_of(others: bool, bytes: &[u8]) -> Option<(ByteClass, &[u8])>
+    ensures some { IfSome result
+        (λ r. (r.0.others ≡ others) × ReadsRanges bytes.now r.0.set r.1.now) }
+    ensures none { IfNone result
+        ((rs : List (ℕ × ℕ)) (w : List ℕ) → Ranges rs bytes.now w → ⊥) }
+    ensures behind { IfSome result (λ r. length r.1.now < length bytes.now) }
+{
+    match ranges_at(bytes) {
+        Some((set, rest)) => Some((ByteClass { others, set }, rest)),
+        None => None,
+    }
+}
+
 /// A set of bytes behind its bracket, or, with `^` at its head, all others.
 fn set_at(bytes: &[u8]) -> Option<(ByteClass, &[u8])>
     ensures some { IfSome result (λ r. ReadsClass (91 ∷ bytes.now) r.0 r.1.now) }
@@ -48,16 +62,12 @@ fn set_at(bytes: &[u8]) -> Option<(ByteClass, &[u8])>
         ((out : Bool) (rs : List (ℕ × ℕ)) (w : List ℕ) → Byte out rs (91 ∷ bytes.now) w → ⊥) }
     ensures behind { IfSome result (λ r. length r.1.now < length bytes.now) }
 {
-    match bytes.split_first() {
-        Some((hat, ranges)) if *hat == 94 => match ranges_at(ranges) {
-            Some((set, rest)) => Some((ByteClass { others: true, set }, rest)),
-            None => None,
-        },
-        _ => match ranges_at(bytes) {
-            Some((set, rest)) => Some((ByteClass { others: false, set }, rest)),
-            None => None,
-        },
+    if let Some((hat, ranges)) = bytes.split_first() {
+        if *hat == 94 {
+            return class_of(true, ranges);
+        }
     }
+    class_of(false, bytes)
 }
 
 /// The class of one byte alone.

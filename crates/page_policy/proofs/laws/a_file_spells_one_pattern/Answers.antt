@@ -1,4 +1,4 @@
-use Rattle.page_policy.proofs.Reading.{spell_one}
+use Rattle.page_policy.proofs.SpellLemmas.{spell_one}
 use Rattle.page_policy.proofs.laws.a_file_spells_one_pattern.Goals as goal
 
 pub returns : goal.returns

@@ -1,4 +1,4 @@
-use Rattle.page_policy.proofs.Fitting.{fit_as_ever}
+use Rattle.page_policy.proofs.FitLemmas.{fit_as_ever}
 use Rattle.page_policy.proofs.laws.texts_fit_as_ever.Goals as goal
 
 pub returns : goal.returns

@@ -4,7 +4,7 @@ use Rattle.derivatives.specs.Expressions.{Expr, empty, chain, either, star, Join
 use Rattle.derivatives.proofs.NormalForms.{chain_shown, chain_made, either_shown, either_made}
 use Rattle.page_policy.specs.Patterns.{Pattern, byte_of, void, seq, alt, any, some, maybe, is_meant, form_of, Fits}
 use Rattle.page_policy.specs.Laws.{IsMeantByte, InTurn, InRow, of_none, of_more, FitAsEver}
-use Rattle.page_policy.proofs.Bytes.{Below, byte_shown, byte_made}
+use Rattle.page_policy.proofs.ByteLemmas.{Below, byte_shown, byte_made}
 
 byte_fits : (out : Bool) (rs : List (ℕ × ℕ)) {w : List ℕ} → Fits (byte_of out rs) w → IsMeantByte out rs w
 byte_fits out rs d = let p = byte_shown (is_meant out rs) d in record { byte = p.byte; is_byte = p.below; meant = p.passes; is = p.is }
@@ -29,9 +29,12 @@ fits_alt : (x y : Expr) {w : List ℕ} → Matches x w ⊎ Matches y w → Match
 fits_alt x y (inl d) = is_left d
 fits_alt x y (inr d) = is_right d
 
+any_of : (p : Pattern) (x : Expr) {w : List ℕ} → Matches (star x) w → x ≡ form_of p → InRow p w
+any_of p x is_over e = of_none
+any_of p x (is_more {u = u} j d f) e = of_more j (subst (λ (y : Expr). Matches y u) e d) (any_of p x f e)
+
 any_fits : (p : Pattern) {w : List ℕ} → Matches (star (form_of p)) w → InRow p w
-any_fits p is_over = of_none
-any_fits p (is_more j d f) = of_more j d (any_fits p f)
+any_fits p d = any_of p (form_of p) d refl
 
 fits_any : (p : Pattern) {w : List ℕ} → InRow p w → Matches (star (form_of p)) w
 fits_any p of_none = is_over

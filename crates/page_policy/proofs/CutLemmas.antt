@@ -5,7 +5,7 @@ use Rattle.page_policy.specs.Machine.{PlainPart, PartAt, Cut, all, further}
 use Rattle.page_policy.specs.Views.{ReadsPart, AreParts}
 use Rattle.page_policy.specs.Cuts.{HasParts, IsCutBy, CutSoFar}
 use Rattle.page_policy.specs.declared.part.Part.{Part}
-use Rattle.page_policy.proofs.Parts.{no_part, one_part}
+use Rattle.page_policy.proofs.PartLemmas.{no_part, one_part}
 
 pub cut_begun : (file : List ℕ) (items : List Part) → items ≡ [] → CutSoFar file file items
 cut_begun file items e = record {

@@ -8,7 +8,7 @@ use Rattle.derivatives.specs.Expressions.{lies}
 use Rattle.page_policy.specs.Patterns.{in_ranges, is_meant}
 use Rattle.page_policy.specs.Grammar.{range_at, Ranges, last, more}
 use Rattle.page_policy.specs.Views.{HasRanges, ReadsRanges, RangesSoFar}
-use Rattle.page_policy.proofs.Parts.{same_read, same_tail, none_read}
+use Rattle.page_policy.proofs.PartLemmas.{same_read, same_tail, none_read}
 
 differ : false ≡ true → ⊥
 differ e = cc

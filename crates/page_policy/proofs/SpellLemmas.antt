@@ -8,7 +8,7 @@ use Rattle.page_policy.specs.Grammar.{Ranges, Byte, dot, itself, inside, outside
 use Rattle.page_policy.specs.Machine.{PlainPart, byte, opened, closed, barred, repeat_at, PartAt, is_byte, opens, closes, bars, Cut, all, further, repeated, joined, Outer, State, wrong, at, put, state_of}
 use Rattle.page_policy.specs.declared.part.Repeat.{Repeat}
 use Rattle.page_policy.specs.declared.part.Repeat.TheVariants.{Once, Any, AtLeastOnce, AtMostOnce}
-use Rattle.page_policy.proofs.Parts.{none_read, one_cut}
+use Rattle.page_policy.proofs.PartLemmas.{none_read, one_cut}
 
 -- From what is read to the grammar.
 

@@ -7,7 +7,7 @@ use Rattle.page_policy.specs.Patterns.{Pattern, form_of}
 use Rattle.page_policy.specs.Machine.{PlainPart, Outer, State, wrong, at, put, state_of, joined}
 use Rattle.page_policy.specs.Views.{IsForm, IsFormIf, IsOuter, AreOuter, Holds}
 use Rattle.page_policy.specs.declared.frame.Frame.{Frame}
-use Rattle.page_policy.proofs.Forms.{made_on}
+use Rattle.page_policy.proofs.FormLemmas.{made_on}
 
 pub form_if_on : (a b : Arena) (n : Option ℕ) (p : Option Pattern) → Grows a b → IsFormIf a n p → IsFormIf b n p
 form_if_on a b None None g h = tt

@@ -10,8 +10,8 @@ use Rattle.page_policy.specs.declared.part.Repeat.{Repeat}
 use Rattle.page_policy.specs.declared.part.ByteClass.{ByteClass}
 use Rattle.page_policy.specs.declared.part.Part.{Part}
 use Rattle.page_policy.specs.declared.part.Part.TheVariants as part
-use Rattle.page_policy.proofs.Parts.{none_read, not_with_hat}
-use Rattle.page_policy.proofs.Ranges.{no_ranges}
+use Rattle.page_policy.proofs.PartLemmas.{none_read, not_with_hat}
+use Rattle.page_policy.proofs.RangeLemmas.{no_ranges}
 
 pub inside_read : (bytes rest : List ℕ) (class : ByteClass) → class.others ≡ false → ReadsRanges bytes class.set rest → ReadsClass (91 ∷ bytes) class rest
 inside_read bytes rest class e r = record { out = false; ranges = r.ranges; read = inside r.read; is = record { others = e; ranges = r.has } }
