@@ -1,6 +1,7 @@
 -- Classes of bytes and parts, as they stand at the head.
 use Rattle.std.proofs.Common.{◌≡◌, ◌∙◌, ℕ, Bool, true, false, List, [], ◌∷◌, Option, Some, None, refl, sym, ap, subst}
-use Rattle.std.specs.Prelude.{◌↔◌, ◌==◌, not, IsTrue, if◌then◌else◌}
+use Rattle.std.specs.Prelude.{IfSome}
+use Rattle.std.specs.Borrow.{Bor}
 use Rattle.text_base.specs.ByteSet.{Has, no_bytes}
 use Rattle.page_policy.specs.Patterns.{in_ranges, is_meant}
 use Rattle.page_policy.specs.Grammar.{is_sign, byte_at, Ranges, Byte, dot, itself, inside, outside}
@@ -18,6 +19,16 @@ inside_read bytes rest class e r = record { out = false; ranges = r.ranges; read
 
 pub outside_read : (bytes rest : List ℕ) (class : ByteClass) → class.others ≡ true → ReadsRanges bytes class.set rest → ReadsClass (91 ∷ 94 ∷ bytes) class rest
 outside_read bytes rest class e r = record { out = true; ranges = r.ranges; read = outside r.read; is = record { others = e; ranges = r.has } }
+
+pub inside_reads : (bytes : List ℕ) (o : Option (ByteClass × Bor (List ℕ))) → IfSome o (λ r. (r.0.others ≡ false) × ReadsRanges bytes r.0.set r.1.now)
+    → IfSome o (λ r. ReadsClass (91 ∷ bytes) r.0 r.1.now)
+inside_reads bytes None h = tt
+inside_reads bytes (Some r) h = inside_read bytes r.1.now r.0 h.0 h.1
+
+pub outside_reads : (bytes : List ℕ) (o : Option (ByteClass × Bor (List ℕ))) → IfSome o (λ r. (r.0.others ≡ true) × ReadsRanges bytes r.0.set r.1.now)
+    → IfSome o (λ r. ReadsClass (91 ∷ 94 ∷ bytes) r.0 r.1.now)
+outside_reads bytes None h = tt
+outside_reads bytes (Some r) h = outside_read bytes r.1.now r.0 h.0 h.1
 
 pub dot_read : (rest : List ℕ) (class : ByteClass) → class.others ≡ true → class.set ≡ no_bytes → ReadsClass (46 ∷ rest) class rest
 dot_read rest class e f = record { out = true; ranges = []; read = dot; is = record { others = e; ranges = no_ranges class.set f } }

@@ -7,4 +7,5 @@ pub mod ClassLemmas
 pub mod CutLemmas
 pub mod FormLemmas
 pub mod BuildLemmas
+pub mod FeedLemmas
 pub mod Examples

@@ -1,11 +1,12 @@
 //! Patterns are put together from the right.
 
 ghost use Rattle.std.specs.Prelude.{◌≡◌, [], List, Option, None, IfOk, OnOk, MatchOption};
+ghost use Rattle.derivatives.specs.Standing.{IsExpr};
 ghost use Rattle.page_policy.specs.Patterns.{void, seq};
 ghost use Rattle.page_policy.specs.Patterns.{Pattern as Plain};
 ghost use Rattle.page_policy.specs.Machine.{PlainPart, State, wrong, at, put, state_of, Outer};
 ghost use Rattle.page_policy.specs.Machine as spec;
-ghost use Rattle.page_policy.specs.Built.{HoldsIn, IsPut, IsBuilt};
+ghost use Rattle.page_policy.specs.Built.{HoldsIn, IsHeld, IsPut, IsBuilt};
 ghost use Rattle.page_policy.specs.Views.{IsPart, AreParts, IsForm, IsFormIf, AreOuter};
 
 use crate::forms::{class_form, repeated};
@@ -43,6 +44,7 @@ impl Building {
 
     /// The row with the alternatives behind it.
     fn joined(&mut self) -> Result<usize, NoMemory>
+        requires { IsHeld self.old }
         ensures made { (p : Plain) (o : Option Plain) (os : List Outer) → HoldsIn self.old (at p o os)
             → IfOk result (λ r. IsForm self.new.arena r (spec.joined p o)) }
         ensures keeps { (p : Plain) (o : Option Plain) (os : List Outer) → HoldsIn self.old (at p o os)
@@ -56,6 +58,8 @@ impl Building {
 
     /// Puts something before the row, so often.
     fn put_first(&mut self, form: usize, repeat: Repeat) -> Result<(), NoMemory>
+        requires form { IsExpr self.old.arena form }
+        requires held { IsHeld self.old }
         ensures { (p q : Plain) (o : Option Plain) (os : List Outer) → IsForm self.old.arena form p
             → HoldsIn self.old (at q o os)
             → OnOk result (HoldsIn self.new (at (seq (spec.repeated repeat p) q) o os)) }
@@ -67,6 +71,7 @@ impl Building {
 
     /// Puts a part before what is read, and tells whether it may stand there.
     fn put(&mut self, part: &Part) -> Result<bool, NoMemory>
+        requires { IsHeld self.old }
         ensures { (x : PlainPart) (s : State) → IsPart part.now x → HoldsIn self.old s
             → IfOk result (λ may. IsPut self.new may (put x s)) }
     {
@@ -104,6 +109,7 @@ impl Building {
 
     /// What is read, where no bracket is left that is not open.
     fn finish(mut self) -> Result<Option<Pattern>, NoMemory>
+        requires { IsHeld self }
         ensures { (s : State) → HoldsIn self s → IfOk result (λ r. IsBuilt r s) }
     {
         if self.outer.last().is_some() {
@@ -119,6 +125,7 @@ impl Building {
 
 /// The pattern of the parts of a whole file, if there is one.
 pub(crate) fn build(alloc: Global, parts: &[Part]) -> Result<Option<Pattern>, NoMemory>
+    requires { (xs : List PlainPart) × AreParts parts.now xs }
     ensures { (xs : List PlainPart) → AreParts parts.now xs
         → IfOk result (λ r. IsBuilt r (state_of xs)) }
 {

@@ -70,6 +70,7 @@ fn with_byte(arena: &mut Arena, is_meant: bool, byte: u8, run: Run) -> Result<Ru
 
 /// A byte of a class: neighbours that are meant are one range.
 pub(crate) fn class_form(arena: &mut Arena, class: &ByteClass) -> Result<usize, NoMemory>
+    ensures is_expr { IfOk result (λ r. IsExpr arena.new r) }
     ensures made { IfOk result (λ r. (out : Bool) (rs : List (ℕ × ℕ)) → IsClass class.now out rs
         → IsForm arena.new r (byte_of out rs)) }
     ensures keeps { Grows arena.old arena.new }
@@ -93,8 +94,9 @@ pub(crate) fn class_form(arena: &mut Arena, class: &ByteClass) -> Result<usize, 
 /// A pattern, so often.
 pub(crate) fn repeated(arena: &mut Arena, form: usize, repeat: Repeat) -> Result<usize, NoMemory>
     requires { IsExpr arena.old form }
-    ensures made { (p : Plain) → IsForm arena.old form p
-        → IfOk result (λ r. IsForm arena.new r (spec.repeated repeat p)) }
+    ensures is_expr { IfOk result (λ r. IsExpr arena.new r) }
+    ensures made { IfOk result (λ r. (p : Plain) → IsForm arena.old form p
+        → IsForm arena.new r (spec.repeated repeat p)) }
     ensures keeps { Grows arena.old arena.new }
 {
     match repeat {
