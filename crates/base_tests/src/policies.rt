@@ -109,10 +109,16 @@ fn files_beyond_the_limits(rt: HostRuntime) -> Result<(), Fail> {
     let most = of_two(rt.alloc(), b'a', b'|', 2048)?;
     assert!(rt; read_policy(rt.alloc(), &most).is_ok());
     let long = of_two(rt.alloc(), b'(', b'*', 2049)?;
-    assert_eq!(rt; read_policy(rt.alloc(), &long).err(), Some(PolicyRefusal::TooLong { len: 4098 }));
+    assert_eq!(rt;
+        read_policy(rt.alloc(), &long).err(),
+        Some(PolicyRefusal::TooLong { len: 4098 })
+    );
     let deepest = of_two(rt.alloc(), b'(', b')', 100)?;
     assert!(rt; read_policy(rt.alloc(), &deepest).is_ok());
     let deep = of_two(rt.alloc(), b'(', b'*', 101)?;
-    assert_eq!(rt; read_policy(rt.alloc(), &deep).err(), Some(PolicyRefusal::TooDeep { at: 100 }));
+    assert_eq!(rt;
+        read_policy(rt.alloc(), &deep).err(),
+        Some(PolicyRefusal::TooDeep { at: 100 })
+    );
     Ok(())
 }

@@ -38,16 +38,16 @@ holds_on a b row others fs (at p o os) g h = (made_on a b row g h.0, form_if_on 
 -- the row with something before it
 pub row_longer : (a b c : Arena) (x row r : ℕ) (others : Option ℕ) (fs : List Frame) (p q : Pattern) (o : Option Pattern) (os : List Outer) → Grows a b → Grows b c
     → IsForm b x p → Holds a row others fs (at q o os) → IsMade c r (chain_of (expr_at b x) (expr_at b row)) → Holds c r others fs (at (seq p q) o os)
-row_longer a b c x row r others fs p q o os g k m h made =
-    (chain_made_behind a b c x row r g m h.0 made,
-    form_if_on b c others o k (form_if_on a b others o g h.1),
-    outers_on b c fs os k (outers_on a b fs os g h.2))
+row_longer a b c x row r others fs p q o os g k m h made = (
+  chain_made_behind a b c x row r g m h.0 made,
+  form_if_on b c others o k (form_if_on a b others o g h.1),
+  outers_on b c fs os k (outers_on a b fs os g h.2),
+)
 
 -- the row with the alternatives behind it
 pub row_joined : (a c : Arena) (row others r : ℕ) (p q : Pattern) → IsForm a row p → IsForm a others q → IsMade c r (either_of (expr_at a row) (expr_at a others)) → IsForm c r (alt p q)
 row_joined a c row others r p q m n made =
     record { is_expr = made.is_expr; is = made.is ∙ ap (λ (z : _). either_of z (expr_at a others)) m.is ∙ ap (λ (z : _). either_of (form_of p) z) n.is }
-
 
 -- the part at a place, and those behind it
 pub record There (xs : List PlainPart) (p : Part) (k : ℕ) : Type 0 where

@@ -16,7 +16,7 @@ cut_begun file items e = record {
 pub cut_more : (file rest others : List ℕ) (items new : List Part) (part : Part) → CutSoFar file rest items → ReadsPart rest part others → new ≡ items ++ part ∷ [] → CutSoFar file others new
 cut_more file rest others items new part so r e = record {
   forth = λ ps h. subst (λ (l : List Part). HasParts l file) (sym (ap (λ (l : List Part). l ++ ps) e ∙ append_assoc items (part ∷ []) ps))
-  (so.forth (part ∷ ps) (record { plain = r.plain ∷ h.plain; are = (r.is, h.are); cut = further r.read h.cut }));
+      (so.forth (part ∷ ps) (record { plain = r.plain ∷ h.plain; are = (r.is, h.are); cut = further r.read h.cut }));
   back = λ xs d. (let f = so.back xs d in behind f.1 r.read);
 }
   where

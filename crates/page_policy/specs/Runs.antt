@@ -12,7 +12,7 @@ pub record IsLonger (passes : Bool) (b : ℕ) (old : Arena) (run : Run) (new : A
   pub is_expr : IsExpr new longer.form
   pub wide : IfSome longer.last (λ last. b ≤ last)
   pub is : (test : ℕ → Bool) → passes ≡ test b
-    → bytes_below test (suc b) run.last (expr_at old run.form) ≡ bytes_below test b longer.last (expr_at new longer.form)
+      → bytes_below test (suc b) run.last (expr_at old run.form) ≡ bytes_below test b longer.last (expr_at new longer.form)
 
 -- the bytes from this one on are done
 pub record RunSoFar (class : ByteClass) (initial arena : Arena) (run : Run) (below : ℕ) : Type 0 where
@@ -21,4 +21,4 @@ pub record RunSoFar (class : ByteClass) (initial arena : Arena) (run : Run) (bel
   pub within : below ≤ 256
   pub wide : IfSome run.last (λ last. below ≤ last)
   pub is : (out : Bool) (rs : List (ℕ × ℕ)) → IsClass class out rs
-    → bytes_below (is_meant out rs) below run.last (expr_at arena run.form) ≡ byte_form (is_meant out rs)
+      → bytes_below (is_meant out rs) below run.last (expr_at arena run.form) ≡ byte_form (is_meant out rs)
