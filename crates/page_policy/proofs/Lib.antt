@@ -4,8 +4,4 @@ pub mod ByteLemmas
 pub mod PartLemmas
 pub mod RangeLemmas
 pub mod ClassLemmas
-pub mod CutLemmas
-pub mod FormLemmas
-pub mod BuildLemmas
-pub mod FeedLemmas
 pub mod Examples

@@ -3,7 +3,4 @@ pub mod Grammar
 pub mod Refusals
 pub mod Machine
 pub mod Views
-pub mod Runs
-pub mod Cuts
-pub mod Built
 pub mod Laws

@@ -3,16 +3,13 @@ use Rattle.std.specs.Prelude.{◌≡◌, ◌<◌, ◌↔◌, ℕ, Bool, true, fa
 use Rattle.std.specs.Borrow.{Bor}
 use Rattle.text_base.specs.ByteSet.{Has}
 use Rattle.text_base.specs.declared.byte_range.ByteRange.{ByteRange}
-use Rattle.derivatives.specs.Standing.{IsMade}
-use Rattle.derivatives.specs.declared.arena.Arena.{Arena}
-use Rattle.page_policy.specs.Patterns.{Pattern, in_ranges, form_of}
+use Rattle.page_policy.specs.Patterns.{in_ranges}
 use Rattle.page_policy.specs.Grammar.{is_sign, is_set_sign, Ranges, Byte}
-use Rattle.page_policy.specs.Machine.{PlainPart, byte, opened, closed, barred, State, wrong, at, repeat_at, PartAt}
+use Rattle.page_policy.specs.Machine.{PlainPart, byte, opened, closed, barred, PartAt}
 use Rattle.page_policy.specs.declared.part.Repeat.{Repeat}
 use Rattle.page_policy.specs.declared.part.ByteClass.{ByteClass}
 use Rattle.page_policy.specs.declared.part.Part.{Part}
 use Rattle.page_policy.specs.declared.part.Part.TheVariants as part
-use Rattle.page_policy.specs.declared.frame.Frame.{Frame}
 
 -- a byte that is read, and what stands behind it
 abbrev pub byte_read : Option (ℕ × Bor (List ℕ)) → Option (ℕ × List ℕ)
@@ -74,36 +71,3 @@ pub record ReadsPart (bytes : List ℕ) (p : Part) (rest : List ℕ) : Type 0 wh
 -- how often, in memory, and what stands behind it
 abbrev pub repeat_read : Repeat × Bor (List ℕ) → Repeat × List ℕ
 repeat_read r = (r.0, r.1.now)
-
--- parts in memory are these
-abbrev pub AreParts : List Part → List PlainPart → Type 0
-AreParts [] [] = ⊤
-AreParts (p ∷ ps) (x ∷ xs) = IsPart p x × AreParts ps xs
-AreParts ps xs = ⊥
-
--- the number stands for this pattern
-abbrev pub IsForm : Arena → ℕ → Pattern → Type 0
-IsForm arena n p = IsMade arena n (form_of p)
-
--- the number, if there is one, stands for this pattern
-abbrev pub IsFormIf : Arena → Option ℕ → Option Pattern → Type 0
-IsFormIf arena None None = ⊤
-IsFormIf arena (Some n) (Some p) = IsForm arena n p
-IsFormIf arena n p = ⊥
-
--- what stands behind a bracket is this
-pub record IsOuter (arena : Arena) (frame : Frame) (o : Pattern × Option Pattern × Repeat) : Type 0 where
-  pub row : IsForm arena frame.row o.0
-  pub others : IsFormIf arena frame.others o.1
-  pub repeat : frame.repeat ≡ o.2
-
--- what stands behind each bracket is this
-abbrev pub AreOuter : Arena → List Frame → List (Pattern × Option Pattern × Repeat) → Type 0
-AreOuter arena [] [] = ⊤
-AreOuter arena (f ∷ fs) (o ∷ os) = IsOuter arena f o × AreOuter arena fs os
-AreOuter arena fs os = ⊥
-
--- what is held is this state
-abbrev pub Holds : Arena → ℕ → Option ℕ → List Frame → State → Type 0
-Holds arena row others outer wrong = ⊥
-Holds arena row others outer (at p q os) = IsForm arena row p × IsFormIf arena others q × AreOuter arena outer os
