@@ -159,7 +159,6 @@ made_below test (suc n) (Some last) e {w} l f =
     at true h g k = g (opened f)
     at false h g k = k (closed h f)
 
-
 -- what is matched is a byte that passes
 pub byte_shown : (test : ℕ → Bool) {w : List ℕ} → Matches (byte_form test) w → Below test 256 w
 unfolding byte_form

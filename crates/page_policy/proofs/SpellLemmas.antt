@@ -21,12 +21,12 @@ mutual
   -- a row begins here, with its alternatives, and behind the bracket that closes them the same
   pub data Left : List ℕ → Pattern → Option Pattern → List Outer → Type 0 where
     left : {u v w : List ℕ} {row : Pattern} {o : Option Pattern} {outer : List Outer}
-      → Row row u v → Others o v w → Behind outer w → Left u row o outer
+        → Row row u v → Others o v w → Behind outer w → Left u row o outer
 
   pub data Behind : List Outer → List ℕ → Type 0 where
     no_more : Behind [] []
     behind : {u v : List ℕ} {row : Pattern} {o : Option Pattern} {r : Repeat} {outer : List Outer}
-      → repeat_at u ≡ (r, v) → Left v row o outer → Behind ((row, o, r) ∷ outer) (41 ∷ u)
+        → repeat_at u ≡ (r, v) → Left v row o outer → Behind ((row, o, r) ∷ outer) (41 ∷ u)
 
 -- what is to be shown of a state
 abbrev pub IsLeft : List ℕ → State → Type 0

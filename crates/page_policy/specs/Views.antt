@@ -44,7 +44,7 @@ pub record ReadsRanges (bytes : List ℕ) (set : List Bool) (rest : List ℕ) : 
 -- some ranges are read: with those behind them they are all, and behind them stand others
 pub record RangesSoFar (bytes : List ℕ) (set : List Bool) (rest : List ℕ) : Type 0 where
   pub forth : (rs : List (ℕ × ℕ)) (w : List ℕ) → Ranges rs rest w
-    → (all : List (ℕ × ℕ)) × Ranges all bytes w × ((b : ℕ) → b < 256 → (Has set b ⊎ (in_ranges rs b ≡ true)) ↔ (in_ranges all b ≡ true))
+      → (all : List (ℕ × ℕ)) × Ranges all bytes w × ((b : ℕ) → b < 256 → (Has set b ⊎ (in_ranges rs b ≡ true)) ↔ (in_ranges all b ≡ true))
   pub back : (rs : List (ℕ × ℕ)) (w : List ℕ) → Ranges rs bytes w → (behind : List (ℕ × ℕ)) × Ranges behind rest w
 
 -- a class of bytes is read

@@ -21,7 +21,7 @@ impl Scan {
         ensures { (at : ℕ) (rest : List ℕ) →
             too_deep self.old.escaped self.old.inside self.old.depth at (byte ∷ rest)
             ≡ (if result then Some at
-               else too_deep self.new.escaped self.new.inside self.new.depth (suc at) rest) }
+            else too_deep self.new.escaped self.new.inside self.new.depth (suc at) rest) }
     {
         if self.escaped {
             self.escaped = false;

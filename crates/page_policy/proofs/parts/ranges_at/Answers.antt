@@ -13,10 +13,11 @@ returns-in-Some-behind_set-clause-some c =
 pub loop-range-preserved : goal.loop-range-preserved
 loop-range-preserved c =
     let behind : length c.in-Some.others.now < length c.loop-range.rest.now = c.in-Some.ensures.behind in
-    let within : length c.loop-range.rest.now ≤ length c.args.bytes.now = c.loop-range.invariant.1 in
-    (so_far_more c.args.bytes.now c.loop-range.set c.add.new.self c.loop-range.rest.now c.in-Some.others.now c.in-Some.range.lo c.in-Some.range.hi
-    c.loop-range.invariant.0 (sym c.in-Some.ensures.value) c.add.ensures c.in_default-behind_set.ensures,
-    omega (arith, behind, within))
+    let within : length c.loop-range.rest.now ≤ length c.args.bytes.now = c.loop-range.invariant.1 in (
+      so_far_more c.args.bytes.now c.loop-range.set c.add.new.self c.loop-range.rest.now c.in-Some.others.now c.in-Some.range.lo c.in-Some.range.hi
+          c.loop-range.invariant.0 (sym c.in-Some.ensures.value) c.add.ensures c.in_default-behind_set.ensures,
+      omega (arith, behind, within),
+    )
 
 pub returns-clause-none : goal.returns-clause-none
 returns-clause-none c = so_far_failed c.args.bytes.now c.loop-range.set c.loop-range.rest.now c.loop-range.invariant.0 c.in_default.ensures.value
