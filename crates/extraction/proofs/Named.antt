@@ -24,21 +24,21 @@ use Rattle.ssa_form.specs.declared.version.Version.{Version}
 use Rattle.ssa_form.specs.declared.versions.Versions.{Versions}
 use Rattle.ssa_form.specs.Views as ssa
 use Rattle.ssa_form.specs.Versions.{joins_in, asks_of, rows_of, joins_of, version_of, IsExact, AreJoins}
-use Rattle.set_listing.specs.declared.name.Half as halves
-use Rattle.set_listing.specs.declared.name.Aspect as aspects
-use Rattle.set_listing.specs.declared.name.Aspect.TheVariants as aspect
-use Rattle.set_listing.specs.declared.name.SetVersion.{SetVersion}
-use Rattle.set_listing.specs.declared.name.SetVersion.TheVariants as version
-use Rattle.set_listing.specs.declared.name.Half.TheVariants as half
-use Rattle.set_listing.specs.declared.name.Leaving as leavings
-use Rattle.set_listing.specs.declared.name.Leaving.TheVariants as leaving
-use Rattle.set_listing.specs.declared.name.SetName.{SetName}
-use Rattle.set_listing.specs.declared.name.SetName.TheVariants as name
-use Rattle.set_listing.specs.SetVersions.{version_seen}
+use Rattle.loose_sets.specs.declared.name.Half as halves
+use Rattle.loose_sets.specs.declared.name.Aspect as aspects
+use Rattle.loose_sets.specs.declared.name.Aspect.TheVariants as aspect
+use Rattle.loose_sets.specs.declared.name.SetVersion.{SetVersion}
+use Rattle.loose_sets.specs.declared.name.SetVersion.TheVariants as version
+use Rattle.loose_sets.specs.declared.name.Half.TheVariants as half
+use Rattle.loose_sets.specs.declared.name.Leaving as leavings
+use Rattle.loose_sets.specs.declared.name.Leaving.TheVariants as leaving
+use Rattle.loose_sets.specs.declared.name.SetName.{SetName}
+use Rattle.loose_sets.specs.declared.name.SetName.TheVariants as name
+use Rattle.loose_sets.specs.Uses.{version_seen}
 use Rattle.set_listing.specs.Stands.{IsHalf, IsLeaving, IsAspect, StandsFor}
 use Rattle.extraction.specs.Asked.{all_names}
-use Rattle.set_listing.specs.Uses.{seen_at}
-use Rattle.set_listing.specs.Points.{source_at, joined_slots}
+use Rattle.loose_sets.specs.Uses.{seen_at}
+use Rattle.loose_sets.specs.Points.{source_at, joined_slots}
 use Rattle.set_listing.proofs.ListLemmas.{map_has, from_place}
 use Rattle.point_listing.specs.Reading.{or_join, read_at}
 use Rattle.point_listing.proofs.Exact.{seen_back}

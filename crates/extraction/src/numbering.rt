@@ -2,7 +2,7 @@
 
 ghost use Rattle.std.specs.Prelude.{◌≡◌, ◌<◌, ◌+◌, ◌++◌, map, length, Contains, IfOk, OnOk};
 ghost use Rattle.least_sets.specs.Forms.{same_form};
-ghost use Rattle.set_listing.specs.declared.name.SetName as plain;
+ghost use Rattle.loose_sets.specs.declared.name.SetName as plain;
 ghost use Rattle.set_tables.specs.Below.{RowsAreBelow};
 ghost use Rattle.set_tables.specs.Forms.{cells_of};
 ghost use Rattle.extraction.specs.Numbered.{AreNumbered};
@@ -13,7 +13,7 @@ use crate::forms::number_name;
 use crate::listing::list_all;
 use indexmap::IndexSet;
 use numbered_sets::count;
-use set_listing::SetName;
+use loose_sets::SetName;
 use set_tables::{Row, RowForm, SetTable};
 use std::alloc::Global;
 use text_base::NoMemory;

@@ -1,5 +1,9 @@
-mod Examples
 pub mod Exact
-pub mod Reading
-pub mod ByVersions
+pub mod Returned
+pub mod Handed
+pub mod Nulls
+pub mod Lists
+pub mod Placed
+pub mod Sourced
+pub mod Carried
 pub mod OfVersions
