@@ -134,9 +134,8 @@ module _ (t : FlowTables) (are : AreTables t) where
             )
         | inr b ↦ (
             let asked = numbered.asked b.name (b.number, slice_get_within names b.number b.name b.at, get_or_from_slice_get names b.number b.name b.name b.at) in
-            let list = exactness.exact t are asked.set b.name asked.used asked.stands in
-            let r = list.each b.named.0 b.named.1 in
-            named.names_in flow t.versions are.exact are.joins r.0 b.named.0 r.2 (named.row_in flow t.versions are.exact are.joins asked.set r.0 r.1) n b.named.2
+            let row = (exactness.exact t are b.name b.named.0).0 b.named.1 in
+            named.row_named flow t.versions are.exact are.joins b.name b.named.0 row asked.used n b.named.2
             )
       ]
 

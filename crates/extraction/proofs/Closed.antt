@@ -107,7 +107,6 @@ module _ (flow : PlainFlow) (at : At) where
   used_known (FurtherPieces p) u = tt
   used_known (Out q l) u = tt
 
-
   value_used : (b : Aspect) (v : SetVersion) → Known b → IsUsed flow at (Value b v)
   unfolding IsUsed
   value_used b v k = k

@@ -63,53 +63,47 @@ unfolding of_told
 told_so told test i c b there is = subst (λ (o : Option PlainKey). of_told test o ≡ b) (sym there) is
 
 module _ {flow : PlainFlow} {p : ℕ} where
-  abbrev Source : PlainSource → Aspect → Form SetName → Type 0
-  Source s b f = IsSourceRow flow p s b f
-
-  abbrev told : List PlainKey
-  told = told_keys flow
-
-  pub literal : (v : Plain) → Source (literal_source v) (Own half.Text) (text_form (text_of v))
+  pub literal : (v : Plain) → IsSourceRow flow p (literal_source v) (Own half.Text) (text_form (text_of v))
   unfolding source_forms
   literal v = record { has = it_alone (text_form (text_of v)) }
 
-  pub copy : (x : ℕ) (b : Aspect) → Source (copy_source x) b (same_form (use_of b x p))
+  pub copy : (x : ℕ) (b : Aspect) → IsSourceRow flow p (copy_source x) b (same_form (use_of b x p))
   unfolding source_forms
   copy x b = record { has = it_alone (same_form (use_of b x p)) }
 
-  pub super_array : (name : SuperName) → Source (super_source name) (Own half.Array) yes_form
+  pub super_array : (name : SuperName) → IsSourceRow flow p (super_source name) (Own half.Array) yes_form
   unfolding source_forms array_own
   super_array name = record { has = it_alone yes_form }
 
-  pub super_member_text : (name : SuperName) (i : ℕ) → Source (super_source name) (Member i half.Text) request_form
+  pub super_member_text : (name : SuperName) (i : ℕ) → IsSourceRow flow p (super_source name) (Member i half.Text) request_form
   unfolding source_forms request_own
   super_member_text name i = record { has = it_alone request_form }
 
-  pub super_member_array : (name : SuperName) (i : ℕ) → Source (super_source name) (Member i half.Array) yes_form
+  pub super_member_array : (name : SuperName) (i : ℕ) → IsSourceRow flow p (super_source name) (Member i half.Array) yes_form
   unfolding source_forms request_own
   super_member_array name i = record { has = it_alone yes_form }
 
-  pub super_other_text : (name : SuperName) → Source (super_source name) (Others half.Text) request_form
+  pub super_other_text : (name : SuperName) → IsSourceRow flow p (super_source name) (Others half.Text) request_form
   unfolding source_forms request_own
   super_other_text name = record { has = it_alone request_form }
 
-  pub super_other_array : (name : SuperName) → Source (super_source name) (Others half.Array) yes_form
+  pub super_other_array : (name : SuperName) → IsSourceRow flow p (super_source name) (Others half.Array) yes_form
   unfolding source_forms request_own
   super_other_array name = record { has = it_alone yes_form }
 
-  pub super_key : (name : SuperName) → Source (super_source name) Keys request_form
+  pub super_key : (name : SuperName) → IsSourceRow flow p (super_source name) Keys request_form
   unfolding source_forms
   super_key name = record { has = it_alone request_form }
 
-  pub member_own : (x : ℕ) (k : PlainKeyRef) (h : Half) → Source (member_source x k) (Own h) (same_form (member_name told each_use p h k x))
+  pub member_own : (x : ℕ) (k : PlainKeyRef) (h : Half) → IsSourceRow flow p (member_source x k) (Own h) (same_form (member_name (told_keys flow) each_use p h k x))
   unfolding source_forms member_forms
-  member_own x k h = record { has = Contains-head (same_form (member_name told each_use p h k x)) (null_own h) }
+  member_own x k h = record { has = Contains-head (same_form (member_name (told_keys flow) each_use p h k x)) (null_own h) }
 
-  pub member_null : (x : ℕ) (k : PlainKeyRef) → Source (member_source x k) (Own half.Text) (text_form [])
+  pub member_null : (x : ℕ) (k : PlainKeyRef) → IsSourceRow flow p (member_source x k) (Own half.Text) (text_form [])
   unfolding source_forms member_forms null_own
-  member_null x k = record { has = Contains-later (same_form (member_name told each_use p half.Text k x)) (text_form [] ∷ []) (text_form []) (it_alone (text_form [])) }
+  member_null x k = record { has = Contains-later (same_form (member_name (told_keys flow) each_use p half.Text k x)) (text_form [] ∷ []) (text_form []) (it_alone (text_form [])) }
 
-  pub member_deep : (x : ℕ) (k : PlainKeyRef) (a b : Aspect) → deeper a ≡ Some b → Source (member_source x k) a (same_form (use_of b x p))
+  pub member_deep : (x : ℕ) (k : PlainKeyRef) (a b : Aspect) → deeper a ≡ Some b → IsSourceRow flow p (member_source x k) a (same_form (use_of b x p))
   unfolding source_forms member_forms
   member_deep x k (Own h) b e = absurd (cc)
   member_deep x k (Member i h) b e =
@@ -123,58 +117,58 @@ module _ {flow : PlainFlow} {p : ℕ} where
       record { has = subst (λ (z : Aspect). Contains (same_form (use_of Keys x p) ∷ []) (same_form (use_of z x p))) same (it_alone (same_form (use_of Keys x p))) }
 
   -- array literals
-  pub array_array : (items : List (Option PlainKeyRef × ℕ)) → Source (array_source items) (Own half.Array) yes_form
+  pub array_array : (items : List (Option PlainKeyRef × ℕ)) → IsSourceRow flow p (array_source items) (Own half.Array) yes_form
   unfolding source_forms array_forms array_own
   array_array items = record { has = it_alone yes_form }
 
-  pub array_member : (items : List (Option PlainKeyRef × ℕ)) (k : Option PlainKeyRef) (v i : ℕ) (h : Half) {c : PlainKey} → Contains items (k, v) → slice_get told i ≡ Some c → may_be k c ≡ true
-      → Source (array_source items) (Member i h) (same_form (use_of (Own h) v p))
+  pub array_member : (items : List (Option PlainKeyRef × ℕ)) (k : Option PlainKeyRef) (v i : ℕ) (h : Half) {c : PlainKey} → Contains items (k, v) → slice_get (told_keys flow) i ≡ Some c → may_be k c ≡ true
+      → IsSourceRow flow p (array_source items) (Member i h) (same_form (use_of (Own h) v p))
   unfolding source_forms array_forms item_under may_be_at
   array_member items k v i h {c} has there may = record {
-    has = flat_map_has (item_under told each_use p i h) items (k, v) (same_form (use_of (Own h) v p)) has
-        (where_has (may_be_at told k i) (same_form (use_of (Own h) v p) ∷ []) (same_form (use_of (Own h) v p)) (told_so told (may_be k) i c true there may) (it_alone (same_form (use_of (Own h) v p))));
+    has = flat_map_has (item_under (told_keys flow) each_use p i h) items (k, v) (same_form (use_of (Own h) v p)) has
+        (where_has (may_be_at (told_keys flow) k i) (same_form (use_of (Own h) v p) ∷ []) (same_form (use_of (Own h) v p)) (told_so (told_keys flow) (may_be k) i c true there may) (it_alone (same_form (use_of (Own h) v p))));
   }
 
-  pub array_other : (items : List (Option PlainKeyRef × ℕ)) (k : Option PlainKeyRef) (v : ℕ) (h : Half) → Contains items (k, v) → may_be_other k told ≡ true
-      → Source (array_source items) (Others h) (same_form (use_of (Own h) v p))
+  pub array_other : (items : List (Option PlainKeyRef × ℕ)) (k : Option PlainKeyRef) (v : ℕ) (h : Half) → Contains items (k, v) → may_be_other k (told_keys flow) ≡ true
+      → IsSourceRow flow p (array_source items) (Others h) (same_form (use_of (Own h) v p))
   unfolding source_forms array_forms item_elsewhere
   array_other items k v h has may = record {
-    has = flat_map_has (item_elsewhere told each_use p h) items (k, v) (same_form (use_of (Own h) v p)) has
-        (Contains-append_left (where_so (may_be_other k told) (same_form (use_of (Own h) v p) ∷ [])) (same_form (all_of h v p) ∷ []) (same_form (use_of (Own h) v p))
-        (where_has (may_be_other k told) (same_form (use_of (Own h) v p) ∷ []) (same_form (use_of (Own h) v p)) may (it_alone (same_form (use_of (Own h) v p)))));
+    has = flat_map_has (item_elsewhere (told_keys flow) each_use p h) items (k, v) (same_form (use_of (Own h) v p)) has
+        (Contains-append_left (where_so (may_be_other k (told_keys flow)) (same_form (use_of (Own h) v p) ∷ [])) (same_form (all_of h v p) ∷ []) (same_form (use_of (Own h) v p))
+        (where_has (may_be_other k (told_keys flow)) (same_form (use_of (Own h) v p) ∷ []) (same_form (use_of (Own h) v p)) may (it_alone (same_form (use_of (Own h) v p)))));
   }
 
-  pub array_deep : (items : List (Option PlainKeyRef × ℕ)) (k : Option PlainKeyRef) (v : ℕ) (h : Half) → Contains items (k, v) → Source (array_source items) (Others h) (same_form (all_of h v p))
+  pub array_deep : (items : List (Option PlainKeyRef × ℕ)) (k : Option PlainKeyRef) (v : ℕ) (h : Half) → Contains items (k, v) → IsSourceRow flow p (array_source items) (Others h) (same_form (all_of h v p))
   unfolding source_forms array_forms item_elsewhere
   array_deep items k v h has = record {
-    has = flat_map_has (item_elsewhere told each_use p h) items (k, v) (same_form (all_of h v p)) has
-        (Contains-append_right (where_so (may_be_other k told) (same_form (use_of (Own h) v p) ∷ [])) (same_form (all_of h v p) ∷ []) (same_form (all_of h v p)) (it_alone (same_form (all_of h v p))));
+    has = flat_map_has (item_elsewhere (told_keys flow) each_use p h) items (k, v) (same_form (all_of h v p)) has
+        (Contains-append_right (where_so (may_be_other k (told_keys flow)) (same_form (use_of (Own h) v p) ∷ [])) (same_form (all_of h v p) ∷ []) (same_form (all_of h v p)) (it_alone (same_form (all_of h v p))));
   }
 
-  pub array_deep_key : (items : List (Option PlainKeyRef × ℕ)) (k : Option PlainKeyRef) (v : ℕ) → Contains items (k, v) → Source (array_source items) Keys (same_form (use_of Keys v p))
+  pub array_deep_key : (items : List (Option PlainKeyRef × ℕ)) (k : Option PlainKeyRef) (v : ℕ) → Contains items (k, v) → IsSourceRow flow p (array_source items) Keys (same_form (use_of Keys v p))
   unfolding source_forms array_forms item_keys
   array_deep_key items k v has = record { has = flat_map_has (item_keys each_use p) items (k, v) (same_form (use_of Keys v p)) has (Contains-head (same_form (use_of Keys v p)) (key_forms each_use p k)) }
 
-  pub array_key : (items : List (Option PlainKeyRef × ℕ)) (k : Option PlainKeyRef) (v : ℕ) (f : Form SetName) → Contains items (k, v) → IsKeyText p k f → Source (array_source items) Keys f
+  pub array_key : (items : List (Option PlainKeyRef × ℕ)) (k : Option PlainKeyRef) (v : ℕ) (f : Form SetName) → Contains items (k, v) → IsKeyText p k f → IsSourceRow flow p (array_source items) Keys f
   unfolding source_forms array_forms item_keys
   array_key items k v f has text = record { has = flat_map_has (item_keys each_use p) items (k, v) f has (Contains-later (same_form (use_of Keys v p)) (key_forms each_use p k) f text.has) }
 
   -- writes
-  pub put_array : (x v : ℕ) (k : Option PlainKeyRef) (ks : List (Option PlainKeyRef)) → Source (put_source x (k ∷ ks) v) (Own half.Array) yes_form
+  pub put_array : (x v : ℕ) (k : Option PlainKeyRef) (ks : List (Option PlainKeyRef)) → IsSourceRow flow p (put_source x (k ∷ ks) v) (Own half.Array) yes_form
   unfolding source_forms put_forms array_own
   put_array x v k [] = record { has = it_alone yes_form }
   put_array x v k (j ∷ ks) = record { has = it_alone yes_form }
 
-  pub put_old : (x v : ℕ) (k : Option PlainKeyRef) (ks : List (Option PlainKeyRef)) (h : Half) → Source (put_source x (k ∷ ks) v) (Others h) (same_form (use_of (Others h) x p))
+  pub put_old : (x v : ℕ) (k : Option PlainKeyRef) (ks : List (Option PlainKeyRef)) (h : Half) → IsSourceRow flow p (put_source x (k ∷ ks) v) (Others h) (same_form (use_of (Others h) x p))
   unfolding source_forms put_forms put_elsewhere deep_elsewhere
-  put_old x v k [] h = record { has = Contains-head (same_form (use_of (Others h) x p)) (same_form (all_of h v p) ∷ where_so (may_be_other k told) (same_form (use_of (Own h) v p) ∷ [])) }
+  put_old x v k [] h = record { has = Contains-head (same_form (use_of (Others h) x p)) (same_form (all_of h v p) ∷ where_so (may_be_other k (told_keys flow)) (same_form (use_of (Own h) v p) ∷ [])) }
   put_old x v k (j ∷ ks) h = record { has = Contains-head (same_form (use_of (Others h) x p)) (same_form (all_of h v p) ∷ same_form (use_of (Own h) v p) ∷ array_own h) }
 
-  pub put_deep : (x v : ℕ) (k : Option PlainKeyRef) (ks : List (Option PlainKeyRef)) (h : Half) → Source (put_source x (k ∷ ks) v) (Others h) (same_form (all_of h v p))
+  pub put_deep : (x v : ℕ) (k : Option PlainKeyRef) (ks : List (Option PlainKeyRef)) (h : Half) → IsSourceRow flow p (put_source x (k ∷ ks) v) (Others h) (same_form (all_of h v p))
   unfolding source_forms put_forms put_elsewhere deep_elsewhere
   put_deep x v k [] h = record {
-    has = Contains-later (same_form (use_of (Others h) x p)) (same_form (all_of h v p) ∷ where_so (may_be_other k told) (same_form (use_of (Own h) v p) ∷ [])) (same_form (all_of h v p))
-        (Contains-head (same_form (all_of h v p)) (where_so (may_be_other k told) (same_form (use_of (Own h) v p) ∷ [])));
+    has = Contains-later (same_form (use_of (Others h) x p)) (same_form (all_of h v p) ∷ where_so (may_be_other k (told_keys flow)) (same_form (use_of (Own h) v p) ∷ [])) (same_form (all_of h v p))
+        (Contains-head (same_form (all_of h v p)) (where_so (may_be_other k (told_keys flow)) (same_form (use_of (Own h) v p) ∷ [])));
   }
   put_deep x v k (j ∷ ks) h = record {
     has = Contains-later (same_form (use_of (Others h) x p)) (same_form (all_of h v p) ∷ same_form (use_of (Own h) v p) ∷ array_own h) (same_form (all_of h v p))
@@ -182,69 +176,69 @@ module _ {flow : PlainFlow} {p : ℕ} where
   }
 
   -- the keys of a write
-  key_row : (x v : ℕ) (k : Option PlainKeyRef) (ks : List (Option PlainKeyRef)) (f : Form SetName) → Contains (put_keys each_use p x (k ∷ ks) v) f → Source (put_source x (k ∷ ks) v) Keys f
+  key_row : (x v : ℕ) (k : Option PlainKeyRef) (ks : List (Option PlainKeyRef)) (f : Form SetName) → Contains (put_keys each_use p x (k ∷ ks) v) f → IsSourceRow flow p (put_source x (k ∷ ks) v) Keys f
   unfolding source_forms put_forms
   key_row x v k [] f has = record { has = has }
   key_row x v k (j ∷ ks) f has = record { has = has }
 
-  pub put_old_key : (x v : ℕ) (k : Option PlainKeyRef) (ks : List (Option PlainKeyRef)) → Source (put_source x (k ∷ ks) v) Keys (same_form (use_of Keys x p))
+  pub put_old_key : (x v : ℕ) (k : Option PlainKeyRef) (ks : List (Option PlainKeyRef)) → IsSourceRow flow p (put_source x (k ∷ ks) v) Keys (same_form (use_of Keys x p))
   unfolding put_keys
   put_old_key x v k ks = key_row x v k ks (same_form (use_of Keys x p)) (Contains-head (same_form (use_of Keys x p)) (same_form (use_of Keys v p) ∷ flat_map (key_forms each_use p) (k ∷ ks)))
 
-  pub put_deep_key : (x v : ℕ) (k : Option PlainKeyRef) (ks : List (Option PlainKeyRef)) → Source (put_source x (k ∷ ks) v) Keys (same_form (use_of Keys v p))
+  pub put_deep_key : (x v : ℕ) (k : Option PlainKeyRef) (ks : List (Option PlainKeyRef)) → IsSourceRow flow p (put_source x (k ∷ ks) v) Keys (same_form (use_of Keys v p))
   unfolding put_keys
   put_deep_key x v k ks = key_row x v k ks (same_form (use_of Keys v p))
       (Contains-later (same_form (use_of Keys x p)) (same_form (use_of Keys v p) ∷ flat_map (key_forms each_use p) (k ∷ ks)) (same_form (use_of Keys v p)) (Contains-head (same_form (use_of Keys v p)) (flat_map (key_forms each_use p) (k ∷ ks))))
 
-  pub put_key : (x v : ℕ) (k : Option PlainKeyRef) (ks : List (Option PlainKeyRef)) (j : Option PlainKeyRef) (f : Form SetName) → Contains (k ∷ ks) j → IsKeyText p j f → Source (put_source x (k ∷ ks) v) Keys f
+  pub put_key : (x v : ℕ) (k : Option PlainKeyRef) (ks : List (Option PlainKeyRef)) (j : Option PlainKeyRef) (f : Form SetName) → Contains (k ∷ ks) j → IsKeyText p j f → IsSourceRow flow p (put_source x (k ∷ ks) v) Keys f
   unfolding put_keys
   put_key x v k ks j f has text = key_row x v k ks f
       (Contains-later (same_form (use_of Keys x p)) (same_form (use_of Keys v p) ∷ flat_map (key_forms each_use p) (k ∷ ks)) f
       (Contains-later (same_form (use_of Keys v p)) (flat_map (key_forms each_use p) (k ∷ ks)) f (flat_map_has (key_forms each_use p) (k ∷ ks) j f has text.has)))
 
   -- a write under one key
-  pub put_kept : (x v : ℕ) (k : Option PlainKeyRef) (i : ℕ) (h : Half) {c : PlainKey} → slice_get told i ≡ Some c → is_exactly k c ≡ false → Source (put_source x (k ∷ []) v) (Member i h) (same_form (use_of (Member i h) x p))
+  pub put_kept : (x v : ℕ) (k : Option PlainKeyRef) (i : ℕ) (h : Half) {c : PlainKey} → slice_get (told_keys flow) i ≡ Some c → is_exactly k c ≡ false → IsSourceRow flow p (put_source x (k ∷ []) v) (Member i h) (same_form (use_of (Member i h) x p))
   unfolding source_forms put_forms put_under is_exactly_at
   put_kept x v k i h {c} there isnt = record {
-    has = Contains-append_left (where_so (not (is_exactly_at told k i)) (same_form (use_of (Member i h) x p) ∷ [])) (where_so (may_be_at told k i) (same_form (use_of (Own h) v p) ∷ [])) (same_form (use_of (Member i h) x p))
-        (where_has (not (is_exactly_at told k i)) (same_form (use_of (Member i h) x p) ∷ []) (same_form (use_of (Member i h) x p)) (ap not (told_so told (is_exactly k) i c false there isnt)) (it_alone (same_form (use_of (Member i h) x p))));
+    has = Contains-append_left (where_so (not (is_exactly_at (told_keys flow) k i)) (same_form (use_of (Member i h) x p) ∷ [])) (where_so (may_be_at (told_keys flow) k i) (same_form (use_of (Own h) v p) ∷ [])) (same_form (use_of (Member i h) x p))
+        (where_has (not (is_exactly_at (told_keys flow) k i)) (same_form (use_of (Member i h) x p) ∷ []) (same_form (use_of (Member i h) x p)) (ap not (told_so (told_keys flow) (is_exactly k) i c false there isnt)) (it_alone (same_form (use_of (Member i h) x p))));
   }
 
-  pub put_new : (x v : ℕ) (k : Option PlainKeyRef) (i : ℕ) (h : Half) {c : PlainKey} → slice_get told i ≡ Some c → may_be k c ≡ true → Source (put_source x (k ∷ []) v) (Member i h) (same_form (use_of (Own h) v p))
+  pub put_new : (x v : ℕ) (k : Option PlainKeyRef) (i : ℕ) (h : Half) {c : PlainKey} → slice_get (told_keys flow) i ≡ Some c → may_be k c ≡ true → IsSourceRow flow p (put_source x (k ∷ []) v) (Member i h) (same_form (use_of (Own h) v p))
   unfolding source_forms put_forms put_under may_be_at
   put_new x v k i h {c} there may = record {
-    has = Contains-append_right (where_so (not (is_exactly_at told k i)) (same_form (use_of (Member i h) x p) ∷ [])) (where_so (may_be_at told k i) (same_form (use_of (Own h) v p) ∷ [])) (same_form (use_of (Own h) v p))
-        (where_has (may_be_at told k i) (same_form (use_of (Own h) v p) ∷ []) (same_form (use_of (Own h) v p)) (told_so told (may_be k) i c true there may) (it_alone (same_form (use_of (Own h) v p))));
+    has = Contains-append_right (where_so (not (is_exactly_at (told_keys flow) k i)) (same_form (use_of (Member i h) x p) ∷ [])) (where_so (may_be_at (told_keys flow) k i) (same_form (use_of (Own h) v p) ∷ [])) (same_form (use_of (Own h) v p))
+        (where_has (may_be_at (told_keys flow) k i) (same_form (use_of (Own h) v p) ∷ []) (same_form (use_of (Own h) v p)) (told_so (told_keys flow) (may_be k) i c true there may) (it_alone (same_form (use_of (Own h) v p))));
   }
 
-  pub put_other : (x v : ℕ) (k : Option PlainKeyRef) (h : Half) → may_be_other k told ≡ true → Source (put_source x (k ∷ []) v) (Others h) (same_form (use_of (Own h) v p))
+  pub put_other : (x v : ℕ) (k : Option PlainKeyRef) (h : Half) → may_be_other k (told_keys flow) ≡ true → IsSourceRow flow p (put_source x (k ∷ []) v) (Others h) (same_form (use_of (Own h) v p))
   unfolding source_forms put_forms put_elsewhere
   put_other x v k h may = record {
-    has = Contains-later (same_form (use_of (Others h) x p)) (same_form (all_of h v p) ∷ where_so (may_be_other k told) (same_form (use_of (Own h) v p) ∷ [])) (same_form (use_of (Own h) v p))
-        (Contains-later (same_form (all_of h v p)) (where_so (may_be_other k told) (same_form (use_of (Own h) v p) ∷ [])) (same_form (use_of (Own h) v p))
-        (where_has (may_be_other k told) (same_form (use_of (Own h) v p) ∷ []) (same_form (use_of (Own h) v p)) may (it_alone (same_form (use_of (Own h) v p)))));
+    has = Contains-later (same_form (use_of (Others h) x p)) (same_form (all_of h v p) ∷ where_so (may_be_other k (told_keys flow)) (same_form (use_of (Own h) v p) ∷ [])) (same_form (use_of (Own h) v p))
+        (Contains-later (same_form (all_of h v p)) (where_so (may_be_other k (told_keys flow)) (same_form (use_of (Own h) v p) ∷ [])) (same_form (use_of (Own h) v p))
+        (where_has (may_be_other k (told_keys flow)) (same_form (use_of (Own h) v p) ∷ []) (same_form (use_of (Own h) v p)) may (it_alone (same_form (use_of (Own h) v p)))));
   }
 
   -- under more keys
-  pub put_member : (x v : ℕ) (k j : Option PlainKeyRef) (ks : List (Option PlainKeyRef)) (i : ℕ) (h : Half) → Source (put_source x (k ∷ j ∷ ks) v) (Member i h) (same_form (use_of (Member i h) x p))
+  pub put_member : (x v : ℕ) (k j : Option PlainKeyRef) (ks : List (Option PlainKeyRef)) (i : ℕ) (h : Half) → IsSourceRow flow p (put_source x (k ∷ j ∷ ks) v) (Member i h) (same_form (use_of (Member i h) x p))
   unfolding source_forms put_forms deep_under
-  put_member x v k j ks i h = record { has = Contains-head (same_form (use_of (Member i h) x p)) (where_so (may_be_at told k i) (array_own h)) }
+  put_member x v k j ks i h = record { has = Contains-head (same_form (use_of (Member i h) x p)) (where_so (may_be_at (told_keys flow) k i) (array_own h)) }
 
-  pub put_member_array : (x v : ℕ) (k j : Option PlainKeyRef) (ks : List (Option PlainKeyRef)) (i : ℕ) {c : PlainKey} → slice_get told i ≡ Some c → may_be k c ≡ true → Source (put_source x (k ∷ j ∷ ks) v) (Member i half.Array) yes_form
+  pub put_member_array : (x v : ℕ) (k j : Option PlainKeyRef) (ks : List (Option PlainKeyRef)) (i : ℕ) {c : PlainKey} → slice_get (told_keys flow) i ≡ Some c → may_be k c ≡ true → IsSourceRow flow p (put_source x (k ∷ j ∷ ks) v) (Member i half.Array) yes_form
   unfolding source_forms put_forms deep_under may_be_at array_own
   put_member_array x v k j ks i {c} there may = record {
-    has = Contains-later (same_form (use_of (Member i half.Array) x p)) (where_so (may_be_at told k i) (array_own half.Array)) yes_form
-        (where_has (may_be_at told k i) (yes_form ∷ []) yes_form (told_so told (may_be k) i c true there may) (it_alone yes_form));
+    has = Contains-later (same_form (use_of (Member i half.Array) x p)) (where_so (may_be_at (told_keys flow) k i) (array_own half.Array)) yes_form
+        (where_has (may_be_at (told_keys flow) k i) (yes_form ∷ []) yes_form (told_so (told_keys flow) (may_be k) i c true there may) (it_alone yes_form));
   }
 
-  pub put_within : (x v : ℕ) (k j : Option PlainKeyRef) (ks : List (Option PlainKeyRef)) (h : Half) → Source (put_source x (k ∷ j ∷ ks) v) (Others h) (same_form (use_of (Own h) v p))
+  pub put_within : (x v : ℕ) (k j : Option PlainKeyRef) (ks : List (Option PlainKeyRef)) (h : Half) → IsSourceRow flow p (put_source x (k ∷ j ∷ ks) v) (Others h) (same_form (use_of (Own h) v p))
   unfolding source_forms put_forms deep_elsewhere
   put_within x v k j ks h = record {
     has = Contains-later (same_form (use_of (Others h) x p)) (same_form (all_of h v p) ∷ same_form (use_of (Own h) v p) ∷ array_own h) (same_form (use_of (Own h) v p))
         (Contains-later (same_form (all_of h v p)) (same_form (use_of (Own h) v p) ∷ array_own h) (same_form (use_of (Own h) v p)) (Contains-head (same_form (use_of (Own h) v p)) (array_own h)));
   }
 
-  pub put_within_array : (x v : ℕ) (k j : Option PlainKeyRef) (ks : List (Option PlainKeyRef)) → Source (put_source x (k ∷ j ∷ ks) v) (Others half.Array) yes_form
+  pub put_within_array : (x v : ℕ) (k j : Option PlainKeyRef) (ks : List (Option PlainKeyRef)) → IsSourceRow flow p (put_source x (k ∷ j ∷ ks) v) (Others half.Array) yes_form
   unfolding source_forms put_forms deep_elsewhere array_own
   put_within_array x v k j ks = record {
     has = Contains-later (same_form (use_of (Others half.Array) x p)) (same_form (all_of half.Array v p) ∷ same_form (use_of (Own half.Array) v p) ∷ yes_form ∷ []) yes_form
@@ -253,59 +247,59 @@ module _ {flow : PlainFlow} {p : ℕ} where
   }
 
   -- what is worked out of values
-  pub concat : (xs : List ℕ) → Source (concat_source xs) (Own half.Text) (same_form (Joined p 0))
+  pub concat : (xs : List ℕ) → IsSourceRow flow p (concat_source xs) (Own half.Text) (same_form (Joined p 0))
   unfolding source_forms
   concat xs = record { has = it_alone (same_form (Joined p 0)) }
 
-  pub repeat_none : (from : ℕ) (f : Builtin) (args : List ℕ) → Source (repeat_source from f args) (Own half.Text) (text_form [])
+  pub repeat_none : (from : ℕ) (f : Builtin) (args : List ℕ) → IsSourceRow flow p (repeat_source from f args) (Own half.Text) (text_form [])
   unfolding source_forms
   repeat_none from f args = record { has = Contains-head (text_form []) (join_form (use_of (Own half.Text) from p) (Value (Own half.Text) (Point p)) ∷ []) }
 
-  pub repeat_more : (from : ℕ) (f : Builtin) (args : List ℕ) → Source (repeat_source from f args) (Own half.Text) (join_form (use_of (Own half.Text) from p) (Value (Own half.Text) (Point p)))
+  pub repeat_more : (from : ℕ) (f : Builtin) (args : List ℕ) → IsSourceRow flow p (repeat_source from f args) (Own half.Text) (join_form (use_of (Own half.Text) from p) (Value (Own half.Text) (Point p)))
   unfolding source_forms
   repeat_more from f args = record {
     has = Contains-later (text_form []) (join_form (use_of (Own half.Text) from p) (Value (Own half.Text) (Point p)) ∷ []) (join_form (use_of (Own half.Text) from p) (Value (Own half.Text) (Point p)))
         (it_alone (join_form (use_of (Own half.Text) from p) (Value (Own half.Text) (Point p))));
   }
 
-  pub implode_none : (sep from : ℕ) (f : Builtin) (args : List ℕ) → Source (implode_source sep from f args) (Own half.Text) (text_form [])
+  pub implode_none : (sep from : ℕ) (f : Builtin) (args : List ℕ) → IsSourceRow flow p (implode_source sep from f args) (Own half.Text) (text_form [])
   unfolding source_forms
   implode_none sep from f args = record { has = Contains-head (text_form []) (join_form (Piece p) (FurtherPieces p) ∷ []) }
 
-  pub implode_more : (sep from : ℕ) (f : Builtin) (args : List ℕ) → Source (implode_source sep from f args) (Own half.Text) (join_form (Piece p) (FurtherPieces p))
+  pub implode_more : (sep from : ℕ) (f : Builtin) (args : List ℕ) → IsSourceRow flow p (implode_source sep from f args) (Own half.Text) (join_form (Piece p) (FurtherPieces p))
   unfolding source_forms
   implode_more sep from f args = record { has = Contains-later (text_form []) (join_form (Piece p) (FurtherPieces p) ∷ []) (join_form (Piece p) (FurtherPieces p)) (it_alone (join_form (Piece p) (FurtherPieces p))) }
 
-  pub explode_array : (operation : Op) (from : ℕ) (f : Builtin) (args : List ℕ) → Source (explode_source operation from f args) (Own half.Array) yes_form
+  pub explode_array : (operation : Op) (from : ℕ) (f : Builtin) (args : List ℕ) → IsSourceRow flow p (explode_source operation from f args) (Own half.Array) yes_form
   unfolding source_forms explode_forms array_own
   explode_array operation from f args = record { has = it_alone yes_form }
 
-  pub explode_member : (operation : Op) (from : ℕ) (f : Builtin) (args : List ℕ) (i : ℕ) {c : PlainKey} → slice_get told i ≡ Some c → is_integer_key c ≡ true → Source (explode_source operation from f args) (Member i half.Text) (same_form (Output p))
+  pub explode_member : (operation : Op) (from : ℕ) (f : Builtin) (args : List ℕ) (i : ℕ) {c : PlainKey} → slice_get (told_keys flow) i ≡ Some c → is_integer_key c ≡ true → IsSourceRow flow p (explode_source operation from f args) (Member i half.Text) (same_form (Output p))
   unfolding source_forms explode_forms output_own
   explode_member operation from f args i {c} there is = record {
-    has = where_has (of_told is_integer_key (slice_get told i)) (same_form (Output p) ∷ []) (same_form (Output p)) (told_so told is_integer_key i c true there is) (it_alone (same_form (Output p)));
+    has = where_has (of_told is_integer_key (slice_get (told_keys flow) i)) (same_form (Output p) ∷ []) (same_form (Output p)) (told_so (told_keys flow) is_integer_key i c true there is) (it_alone (same_form (Output p)));
   }
 
-  pub explode_other : (operation : Op) (from : ℕ) (f : Builtin) (args : List ℕ) → Source (explode_source operation from f args) (Others half.Text) (same_form (Output p))
+  pub explode_other : (operation : Op) (from : ℕ) (f : Builtin) (args : List ℕ) → IsSourceRow flow p (explode_source operation from f args) (Others half.Text) (same_form (Output p))
   unfolding source_forms explode_forms output_own
   explode_other operation from f args = record { has = it_alone (same_form (Output p)) }
 
-  pub explode_key : (operation : Op) (from : ℕ) (f : Builtin) (args : List ℕ) → Source (explode_source operation from f args) Keys integer_form
+  pub explode_key : (operation : Op) (from : ℕ) (f : Builtin) (args : List ℕ) → IsSourceRow flow p (explode_source operation from f args) Keys integer_form
   unfolding source_forms explode_forms
   explode_key operation from f args = record { has = it_alone integer_form }
 
-  pub apply : (operation : Op) (from : ℕ) (f : Builtin) (args : List ℕ) → Source (apply_source operation from f args) (Own half.Text) (same_form (Output p))
+  pub apply : (operation : Op) (from : ℕ) (f : Builtin) (args : List ℕ) → IsSourceRow flow p (apply_source operation from f args) (Own half.Text) (same_form (Output p))
   unfolding source_forms
   apply operation from f args = record { has = it_alone (same_form (Output p)) }
 
-  pub number : (work : Work) (args : List ℕ) → Source (number_source work args) (Own half.Text) integer_form
+  pub number : (work : Work) (args : List ℕ) → IsSourceRow flow p (number_source work args) (Own half.Text) integer_form
   unfolding source_forms
   number work args = record { has = it_alone integer_form }
 
-  pub truth_true : (work : Work) (args : List ℕ) → Source (truth_source work args) (Own half.Text) (text_form (codes "1"))
+  pub truth_true : (work : Work) (args : List ℕ) → IsSourceRow flow p (truth_source work args) (Own half.Text) (text_form (codes "1"))
   unfolding source_forms
   truth_true work args = record { has = Contains-head (text_form (codes "1")) (text_form [] ∷ []) }
 
-  pub truth_false : (work : Work) (args : List ℕ) → Source (truth_source work args) (Own half.Text) (text_form [])
+  pub truth_false : (work : Work) (args : List ℕ) → IsSourceRow flow p (truth_source work args) (Own half.Text) (text_form [])
   unfolding source_forms
   truth_false work args = record { has = Contains-later (text_form (codes "1")) (text_form [] ∷ []) (text_form []) (it_alone (text_form [])) }
