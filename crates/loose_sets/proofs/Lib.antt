@@ -1,3 +1,5 @@
+mod Examples
+mod Cells
 pub mod Exact
 pub mod Returned
 pub mod Handed

@@ -234,7 +234,7 @@ module _ {flow : PlainFlow} where
       (map_has (used_pair each_use b) (handed_to flow n y) (p, arg) ((handed_pairs flow n y p arg).1 (record { slot = x; args = args; next = next; function = g; call = call; is = is; argument = argument }))))
 
   pub null_slot : (n y : ℕ) (g : PlainFlowFunction) → function_at flow n ≡ Some g → IsOwnSlot g y → (Contains g.params_of y → ⊥) → Row flow (Value (Own half.Text) (Entry n y)) (text_form [])
-  unfolding point_of forms_beside
+  unfolding point_of forms_beside where_so is_own_text
   null_slot n y g is own gone = RowBy.listed (Value (Own half.Text) (Entry n y)) (text_form [])
       (Contains-append_right (used_pairs each_use (handed_to flow n y) (Own half.Text)) (where_so (is_null_slot flow n y) (text_form [] ∷ [])) (text_form [])
       (where_has (is_null_slot flow n y) (text_form [] ∷ []) (text_form []) (null_is flow n y (record { function = g; is = is; inside = own; no_parameter = gone })) (it_alone (text_form []))))
