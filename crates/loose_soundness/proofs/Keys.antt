@@ -20,7 +20,6 @@ use Rattle.loose_sets.specs.declared.name.SetName.{SetName}
 use Rattle.loose_soundness.proofs.Names.{set_of, use_of}
 use Rattle.loose_sets.specs.Table.{Row}
 use Rattle.loose_soundness.proofs.SourceRows.{IsKeyText, of_integer, of_text, of_value, of_false, of_next}
-use Rattle.loose_soundness.proofs.Rows as rows
 use Rattle.plain_values.proofs.CanonicalLemmas.{spelled}
 use Rattle.plain_values.proofs.SameKeys.{same_itself, same_back}
 use Rattle.loose_soundness.proofs.Decimals.{integer_is, decimal_none, decimal_one}

@@ -1,5 +1,5 @@
 -- The values of slots lie in the sets of the definitions that reach a point.
-use Rattle.std.proofs.Common.{◌≡◌, ℕ, false, List, [], Option, Some, refl, sym, subst, arith, slice_get}
+use Rattle.std.proofs.Common.{◌≡◌, ℕ, false, List, Option, Some, sym, subst, arith, slice_get}
 use Rattle.std.specs.Prelude.{All}
 use Rattle.xml_text.specs.Texts.{IsText}
 use Rattle.plain_values.specs.Plain.{Plain, PlainKey, Pairs, null, flag, int, text, array}
@@ -17,7 +17,6 @@ use Rattle.loose_sets.specs.declared.name.Half.TheVariants as half
 use Rattle.loose_sets.specs.declared.name.SetName.{SetName}
 use Rattle.loose_soundness.proofs.Names.{set_of, use_of, all_of}
 use Rattle.loose_sets.specs.Table.{SetsTo, Row}
-use Rattle.loose_soundness.proofs.SourceRows as sources
 use Rattle.loose_soundness.proofs.SourceRows.{IsSourceRow}
 use Rattle.loose_soundness.proofs.Rows as rows
 use Rattle.loose_soundness.proofs.Covers.{Has, Yes, InsideIn, AllIn, MembersIn, Covers, place, covers_wider, members_all}

@@ -44,7 +44,7 @@ use Rattle.loose_sets.specs.declared.name.Aspect.TheVariants.{Own, Member, Other
 use Rattle.loose_sets.specs.declared.name.Half.TheVariants as half
 use Rattle.loose_sets.specs.declared.name.SetName.{SetName}
 use Rattle.loose_sets.specs.declared.name.SetName.TheVariants.{Output, Input}
-use Rattle.loose_soundness.proofs.Names.{set_of, use_of, all_of}
+use Rattle.loose_soundness.proofs.Names.{set_of, use_of}
 use Rattle.loose_sets.specs.Table.{SetsTo, Row}
 use Rattle.loose_soundness.proofs.SourceRows as sources
 use Rattle.loose_soundness.proofs.SourceRows.{IsSourceRow}

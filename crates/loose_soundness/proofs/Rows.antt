@@ -1,7 +1,6 @@
 -- The rows of the loose table, one by one.
-use Rattle.std.proofs.Common.{◌≡◌, ◌≤◌, ◌+◌, ◌∙◌, ℕ, zero, suc, Bool, true, false, List, [], ◌∷◌, ◌++◌, Option, Some, None, refl, sym, subst, ap, arith, slice_get, length, map, eq-eqb}
-use Rattle.std.specs.Prelude.{⊤, Contains, codes, ◌&&◌, not, nat_eq}
-use Rattle.std.specs.List.{list_any}
+use Rattle.std.proofs.Common.{◌≡◌, ◌+◌, ℕ, zero, suc, List, [], ◌∷◌, Option, Some, None, refl, sym, subst, arith, slice_get, length, eq-eqb}
+use Rattle.std.specs.Prelude.{⊤, Contains, codes, nat_eq}
 use Rattle.std.proofs.lemmas.List.Elements.{Contains-append_left, Contains-append_right}
 use Rattle.std.proofs.lemmas.Option.{slice_get_past}
 use Rattle.string_functions.proofs.Members.{Contains-head, Contains-later}
@@ -13,15 +12,15 @@ use Rattle.flow_code.specs.Lawful.{nexts, IsOwnSlot, IsOwnPoint}
 use Rattle.least_sets.specs.Forms.{Form, text_form, same_form, join_form, before_form, apply_form, where_form}
 use Rattle.plain_values.specs.Plain.{PlainKey}
 use Rattle.loose_sets.specs.Keys.{told_keys}
-use Rattle.loose_sets.specs.Reaching.{Definition, at_point, at_entry, Reaches}
+use Rattle.loose_sets.specs.Reaching.{Definition, Reaches}
 use Rattle.loose_sets.specs.Versions.{of_definition}
 use Rattle.loose_sets.specs.Uses.{where_so}
 use Rattle.loose_sets.specs.Sources.{is_own_text}
-use Rattle.loose_sets.specs.Points.{walk_forms, value_forms, source_at, joined_slots, imploded_slots, replaced_by, operation_of, joined_from_place, joined_forms, piece_forms, further_forms, any_further_forms, input_used, input_forms, output_forms}
-use Rattle.loose_sets.specs.Printed.{onward, on_return, on_exit, call_forms, out_forms}
+use Rattle.loose_sets.specs.Points.{walk_forms, replaced_by, joined_from_place, input_used}
+use Rattle.loose_sets.specs.Printed.{onward, on_exit, call_forms, out_forms}
 use Rattle.loose_sets.specs.Members.{told_members, members_forms, shown_forms}
-use Rattle.loose_sets.specs.Functions.{IsArgument, returned_of, returned_by, handed_to, owns, is_null_of, is_null_slot, used_pair, used_pairs, entry_forms}
-use Rattle.loose_sets.specs.Table.{SetsTo, point_of, forms_from, forms_there, forms_beside, forms_by, forms, RowBy, each_use, Row}
+use Rattle.loose_sets.specs.Functions.{IsArgument, returned_of, returned_by, handed_to, is_null_slot, used_pair, used_pairs}
+use Rattle.loose_sets.specs.Table.{SetsTo, point_of, forms_from, forms_there, forms_beside, forms_by, RowBy, each_use, Row}
 use Rattle.loose_sets.specs.declared.name.Half.{Half}
 use Rattle.loose_sets.specs.declared.name.Half.TheVariants as half
 use Rattle.loose_sets.specs.declared.name.Aspect.{Aspect}
@@ -31,7 +30,7 @@ use Rattle.loose_sets.specs.declared.name.Leaving.TheVariants.{Return, Exit}
 use Rattle.loose_sets.specs.declared.name.SetVersion.{SetVersion}
 use Rattle.loose_sets.specs.declared.name.SetVersion.TheVariants.{Point, Entry, Join}
 use Rattle.loose_sets.specs.declared.name.SetName.{SetName}
-use Rattle.loose_sets.specs.declared.name.SetName.TheVariants.{Value, Members, Shown, Result, Input, Output, Joined, Piece, FurtherPiece, FurtherPieces, Out}
+use Rattle.loose_sets.specs.declared.name.SetName.TheVariants.{Value, Result, Input, Output, Joined, Piece, FurtherPiece, FurtherPieces, Out}
 use Rattle.loose_sets.proofs.Lists.{where_has, map_has}
 use Rattle.loose_sets.proofs.Returned.{it_alone, returned_law}
 use Rattle.loose_sets.proofs.Handed.{handed_pairs}

@@ -1,5 +1,5 @@
 -- Literals, copies, arrays of the request, and members.
-use Rattle.std.proofs.Common.{◌≡◌, ℕ, ℤ, Bool, true, false, if◌then◌else◌, List, [], Result, Ok, Err, refl, sym, subst}
+use Rattle.std.proofs.Common.{◌≡◌, ℕ, ℤ, List, [], Result, Ok, Err, refl, sym, subst}
 use Rattle.std.specs.Prelude.{⊤}
 use Rattle.xml_text.specs.Texts.{IsText}
 use Rattle.php_syntax.specs.declared.tree.SuperName.{SuperName}
@@ -25,7 +25,7 @@ use Rattle.loose_sets.specs.declared.name.Aspect.TheVariants.{Own, Member, Other
 use Rattle.loose_sets.specs.declared.name.Half.{Half}
 use Rattle.loose_sets.specs.declared.name.Half.TheVariants as half
 use Rattle.loose_sets.specs.declared.name.SetName.{SetName}
-use Rattle.loose_soundness.proofs.Names.{set_of, use_of, all_of, deeper, member_at}
+use Rattle.loose_soundness.proofs.Names.{set_of, use_of, all_of, member_at}
 use Rattle.loose_sets.specs.Table.{SetsTo, Row}
 use Rattle.loose_sets.specs.Uses.{member_name}
 use Rattle.loose_soundness.proofs.SourceRows as sources

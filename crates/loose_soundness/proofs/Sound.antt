@@ -22,7 +22,7 @@ use Rattle.loose_sets.specs.declared.name.Leaving.{Leaving}
 use Rattle.loose_sets.specs.declared.name.Leaving.TheVariants.{Return, Exit}
 use Rattle.loose_sets.specs.declared.name.SetName.TheVariants.{Out, Result}
 use Rattle.loose_soundness.proofs.Names.{set_of, use_of, shown_at}
-use Rattle.loose_sets.specs.Table.{SetsTo, Row}
+use Rattle.loose_sets.specs.Table.{SetsTo}
 use Rattle.loose_sets.specs.Functions.{IsArgument}
 use Rattle.loose_soundness.proofs.Rows.{PrintsNothing}
 use Rattle.loose_soundness.proofs.Rows as rows

@@ -1,5 +1,5 @@
 -- The rows of what a slot is set to, one by one.
-use Rattle.std.proofs.Common.{◌≡◌, ℕ, ℤ, Bool, true, false, List, [], ◌∷◌, ◌++◌, Option, Some, None, refl, sym, subst, ap, slice_get}
+use Rattle.std.proofs.Common.{◌≡◌, ℕ, ℤ, Bool, true, false, List, [], ◌∷◌, Option, Some, None, sym, subst, ap, slice_get}
 use Rattle.std.specs.Prelude.{Contains, codes, flat_map, not}
 use Rattle.std.specs.Fmt.{signed_decimal}
 use Rattle.std.proofs.lemmas.List.Elements.{Contains-append_left, Contains-append_right}
@@ -14,9 +14,9 @@ use Rattle.flow_code.specs.declared.source.Work.{Work}
 use Rattle.flow_code.specs.Points.{PlainKeyRef, int_ref, text_ref, read_ref, PlainSource, literal_source, copy_source, super_source, member_source, array_source, put_source, concat_source, repeat_source, implode_source, explode_source, apply_source, number_source, truth_source, PlainFlow}
 use Rattle.least_sets.specs.Forms.{Form, text_form, same_form, join_form, request_form, integer_form, yes_form}
 use Rattle.loose_sets.specs.Keys.{told_keys, may_be, may_be_other, is_exactly, is_integer_key}
-use Rattle.loose_sets.specs.Uses.{used, all_used, where_so, of_told, may_be_at, member_name}
+use Rattle.loose_sets.specs.Uses.{where_so, of_told, may_be_at, member_name}
 use Rattle.loose_sets.specs.Arrays.{array_own, null_own, member_forms, key_forms, item_under, item_elsewhere, item_keys, array_forms, is_exactly_at, put_under, put_elsewhere, deep_under, deep_elsewhere, put_keys, put_forms}
-use Rattle.loose_sets.specs.Sources.{is_own_text, request_own, super_forms, output_own, explode_forms, source_forms}
+use Rattle.loose_sets.specs.Sources.{request_own, output_own, explode_forms, source_forms}
 use Rattle.loose_sets.specs.Table.{each_use}
 use Rattle.loose_sets.specs.declared.name.Half.{Half}
 use Rattle.loose_sets.specs.declared.name.Half.TheVariants as half

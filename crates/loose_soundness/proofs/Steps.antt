@@ -15,8 +15,7 @@ use Rattle.loose_sets.specs.Keys.{told_keys}
 use Rattle.loose_sets.specs.declared.name.Aspect.{Aspect}
 use Rattle.loose_sets.specs.declared.name.Aspect.TheVariants.{Own, Member, Others, Keys}
 use Rattle.loose_sets.specs.declared.name.Half.TheVariants as half
-use Rattle.loose_soundness.proofs.Names.{set_of, use_of, all_of, deeper}
-use Rattle.loose_sets.specs.Table.{Row}
+use Rattle.loose_soundness.proofs.Names.{set_of, use_of, all_of}
 use Rattle.loose_soundness.proofs.Rows as rows
 use Rattle.loose_soundness.proofs.Covers.{OwnIn, InsideIn, KeysIn, KeysInAll, MembersIn, Covers, place, own_wider, keys_wider, covers_wider, covers_deep, inside_wider}
 use Rattle.loose_soundness.proofs.Lying.{HasIn, SaysIn, Def, DefYes, Use, UseYes, Lies, UseLies, use_lies, same_in, same_yes, by_place}

@@ -37,7 +37,7 @@ use Rattle.loose_sets.specs.declared.name.Aspect.TheVariants.{Own}
 use Rattle.loose_sets.specs.declared.name.Half.TheVariants as half
 use Rattle.loose_sets.specs.declared.name.SetName.TheVariants.{Joined, Piece, FurtherPiece, FurtherPieces}
 use Rattle.loose_soundness.proofs.Names.{set_of, use_of, all_of, shown_at}
-use Rattle.loose_sets.specs.Table.{SetsTo, Row}
+use Rattle.loose_sets.specs.Table.{SetsTo}
 use Rattle.loose_soundness.proofs.SourceRows as sources
 use Rattle.loose_soundness.proofs.SourceRows.{IsSourceRow}
 use Rattle.loose_soundness.proofs.Rows as rows
