@@ -1,21 +1,22 @@
 -- Each cell of the table by an example, with a near miss beside it. Told apart are `'t'` and 5; the slots stand at the point 9.
-use Rattle.std.proofs.Common.{◌≡◌, ℕ, ℤ, pos, Bool, true, false, List, [], ◌∷◌, Option, Some, None, refl}
+use Rattle.std.proofs.Common.{◌≡◌, ℕ, pos, List, [], ◌∷◌, Some, None, refl}
 use Rattle.std.specs.Prelude.{codes}
-use Rattle.plain_values.specs.Plain.{PlainKey, int_key, text_key, text, null}
+use Rattle.std.specs.Fmt.{digits}
+use Rattle.plain_values.specs.Plain.{PlainKey, int_key, text_key, text}
 use Rattle.php_syntax.specs.declared.tree.SuperName.TheVariants.{Get}
 use Rattle.builtin_meaning.specs.declared.builtin.Builtin.TheVariants as builtin
 use Rattle.op_system.specs.declared.op.Op.TheVariants as op
 use Rattle.flow_code.specs.declared.source.Work.TheVariants as work
-use Rattle.flow_code.specs.Points.{PlainKeyRef, int_ref, text_ref, read_ref, PlainSource, literal_source, copy_source, super_source, member_source, array_source, put_source, concat_source, repeat_source, implode_source, explode_source, apply_source, number_source, truth_source, PlainPoint, set_point, call_point, print_point, echo_point, branch_point, begin_point, key_point, value_point, return_point, quit_point, PlainFlowFunction}
+use Rattle.flow_code.specs.Points.{int_ref, text_ref, read_ref, PlainSource, literal_source, copy_source, super_source, member_source, array_source, put_source, concat_source, repeat_source, implode_source, explode_source, apply_source, number_source, truth_source, PlainPoint, call_point, echo_point, branch_point, key_point, value_point, return_point, quit_point, PlainFlowFunction}
 use Rattle.flow_code.specs.Lawful.{nexts}
-use Rattle.least_sets.specs.Forms.{Form, text_form, same_form, join_form, before_form, request_form, integer_form, apply_form, yes_form, where_form}
-use Rattle.loose_sets.specs.Keys.{literal_key, may_be, may_be_other, is_exactly, is_among}
-use Rattle.loose_sets.specs.Uses.{where_so, of_told, may_be_at, number_from, member_name}
-use Rattle.loose_sets.specs.Arrays.{Forms, array_own, null_own, member_forms, key_forms, item_under, item_elsewhere, item_keys, array_forms, is_exactly_at, put_under, put_elsewhere, deep_under, deep_elsewhere, put_keys, put_forms}
-use Rattle.loose_sets.specs.Sources.{is_own_text, request_own, super_forms, output_own, explode_forms, source_forms}
-use Rattle.loose_sets.specs.Points.{walk_forms, value_forms, source_at, joined_slots, imploded_slots, replaced_by, operation_of, joined_forms, piece_forms, further_forms, any_further_forms, input_forms, output_forms}
-use Rattle.loose_sets.specs.Printed.{on_return, on_exit, out_forms}
-use Rattle.loose_sets.specs.Members.{told_members, members_forms, shown_forms}
+use Rattle.least_sets.specs.Forms.{Form, text_form, same_form, join_form, request_form, integer_form, apply_form, yes_form, where_form}
+use Rattle.loose_sets.specs.Keys.{may_be, may_be_other, is_exactly}
+use Rattle.loose_sets.specs.Uses.{member_name}
+use Rattle.loose_sets.specs.Arrays.{Forms}
+use Rattle.loose_sets.specs.Sources.{source_forms}
+use Rattle.loose_sets.specs.Points.{value_forms, operation_of, input_forms, output_forms}
+use Rattle.loose_sets.specs.Printed.{out_forms}
+use Rattle.loose_sets.specs.Members.{members_forms, shown_forms}
 use Rattle.loose_sets.specs.Table.{each_use}
 use Rattle.loose_sets.specs.declared.name.Half.TheVariants.{Text, Array}
 use Rattle.loose_sets.specs.declared.name.Aspect.{Aspect}
@@ -23,7 +24,7 @@ use Rattle.loose_sets.specs.declared.name.Aspect.TheVariants.{Own, Member, Other
 use Rattle.loose_sets.specs.declared.name.Leaving.TheVariants.{Return, Exit}
 use Rattle.loose_sets.specs.declared.name.SetVersion.TheVariants.{Point, Join}
 use Rattle.loose_sets.specs.declared.name.SetName.{SetName}
-use Rattle.loose_sets.specs.declared.name.SetName.TheVariants.{Value, Members, Shown, Result, Input, Output, Joined, Piece, FurtherPiece, FurtherPieces, Out}
+use Rattle.loose_sets.specs.declared.name.SetName.TheVariants.{Value, Members, Shown, Result, Input, Output, Joined, Piece, FurtherPieces, Out}
 
 abbrev told : List PlainKey
 told = text_key (codes "t") ∷ int_key (pos 5) ∷ []
@@ -65,15 +66,15 @@ request_is_no_text = refl
 
 -- `$x['5']` is the member under 5; `$x['6']` one of the others; `$x[$y]` any
 member_told : given (member_source 2 (text_ref (codes "t"))) (Own Text) ≡ of_slot 2 (Member 0 Text) ∷ text_form [] ∷ []
-unfolding source_forms
+unfolding source_forms member_name may_be may_be_other is_exactly digits
 member_told = refl
 
 member_other : given (member_source 2 (int_ref (pos 6))) (Own Array) ≡ of_slot 2 (Others Array) ∷ []
-unfolding source_forms
+unfolding source_forms member_name may_be may_be_other is_exactly digits
 member_other = refl
 
 member_any : given (member_source 2 (read_ref 3)) (Own Text) ≡ all_of 2 ∷ text_form [] ∷ []
-unfolding source_forms
+unfolding source_forms member_name may_be may_be_other is_exactly digits
 member_any = refl
 
 member_deeper : given (member_source 2 (int_ref (pos 5))) (Member 0 Text) ≡ of_slot 2 (Others Text) ∷ []
@@ -85,15 +86,15 @@ abbrev two_items : PlainSource
 two_items = array_source ((Some (text_ref (codes "t")), 2) ∷ (None, 3) ∷ [])
 
 item_told : given two_items (Member 0 Text) ≡ of_slot 2 (Own Text) ∷ []
-unfolding source_forms
+unfolding source_forms member_name may_be may_be_other is_exactly digits
 item_told = refl
 
 item_next : given two_items (Member 1 Text) ≡ of_slot 3 (Own Text) ∷ []
-unfolding source_forms
+unfolding source_forms member_name may_be may_be_other is_exactly digits
 item_next = refl
 
 items_elsewhere : given two_items (Others Text) ≡ all_of 2 ∷ of_slot 3 (Own Text) ∷ all_of 3 ∷ []
-unfolding source_forms
+unfolding source_forms member_name may_be may_be_other is_exactly digits
 items_elsewhere = refl
 
 items_keys : given two_items Keys ≡ of_slot 2 Keys ∷ text_form (codes "t") ∷ of_slot 3 Keys ∷ integer_form ∷ []
@@ -102,29 +103,29 @@ items_keys = refl
 
 -- `$x[5] = $v`: the member under 5 is the new value alone, and no other one changes
 put_this : given (put_source 2 (Some (int_ref (pos 5)) ∷ []) 3) (Member 1 Text) ≡ of_slot 3 (Own Text) ∷ []
-unfolding source_forms
+unfolding source_forms member_name may_be may_be_other is_exactly digits
 put_this = refl
 
 put_not_this : given (put_source 2 (Some (int_ref (pos 5)) ∷ []) 3) (Member 0 Text) ≡ of_slot 2 (Member 0 Text) ∷ []
-unfolding source_forms
+unfolding source_forms member_name may_be may_be_other is_exactly digits
 put_not_this = refl
 
 -- `$x[$k] = $v`: it may be any member
 put_any : given (put_source 2 (Some (read_ref 4) ∷ []) 3) (Member 1 Text) ≡ of_slot 2 (Member 1 Text) ∷ of_slot 3 (Own Text) ∷ []
-unfolding source_forms
+unfolding source_forms member_name may_be may_be_other is_exactly digits
 put_any = refl
 
 put_elsewhere_is : given (put_source 2 (Some (int_ref (pos 6)) ∷ []) 3) (Others Text) ≡ of_slot 2 (Others Text) ∷ all_of 3 ∷ of_slot 3 (Own Text) ∷ []
-unfolding source_forms
+unfolding source_forms member_name may_be may_be_other is_exactly digits
 put_elsewhere_is = refl
 
 -- `$x[5]['t'] = $v`: the member under 5 stays what it was, or is an array; the new value stands deep
 put_deep_array : given (put_source 2 (Some (int_ref (pos 5)) ∷ Some (text_ref (codes "t")) ∷ []) 3) (Member 1 Array) ≡ of_slot 2 (Member 1 Array) ∷ yes_form ∷ []
-unfolding source_forms
+unfolding source_forms member_name may_be may_be_other is_exactly digits
 put_deep_array = refl
 
 put_deep_other : given (put_source 2 (Some (int_ref (pos 5)) ∷ Some (text_ref (codes "t")) ∷ []) 3) (Member 0 Array) ≡ of_slot 2 (Member 0 Array) ∷ []
-unfolding source_forms
+unfolding source_forms member_name may_be may_be_other is_exactly digits
 put_deep_other = refl
 
 put_deep_text : given (put_source 2 (Some (int_ref (pos 5)) ∷ None ∷ []) 3) (Others Text) ≡ of_slot 2 (Others Text) ∷ all_of 3 ∷ of_slot 3 (Own Text) ∷ []
@@ -132,7 +133,7 @@ unfolding source_forms
 put_deep_text = refl
 
 put_path_keys : given (put_source 2 (Some (int_ref (pos 5)) ∷ None ∷ []) 3) Keys ≡ of_slot 2 Keys ∷ of_slot 3 Keys ∷ text_form (codes "5") ∷ integer_form ∷ []
-unfolding source_forms
+unfolding source_forms member_name may_be may_be_other is_exactly digits
 put_path_keys = refl
 
 joined : given (concat_source (2 ∷ 3 ∷ [])) (Own Text) ≡ same_form (Joined 9 0) ∷ []

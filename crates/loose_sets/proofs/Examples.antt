@@ -1,15 +1,11 @@
 -- Definitions that reach a point and that do not, keys that are told apart, and loose pages of small programs; and what loose pages do not
 -- show: which way a branch goes, and the parameter of a function that is never called.
-use Rattle.std.proofs.Common.{inl, inr, ◌⊎◌, ◌≡◌, ℕ, zero, suc, pos, Bool, true, false, not, ◌&&◌, List, [], ◌∷◌, None, Some, refl, sym, ap, ◌∙◌, subst, arith}
-use Rattle.std.specs.Prelude.{⊤, codes, Contains, All, slice_get, nat_eq}
-use Rattle.std.specs.List.{list_any}
+use Rattle.std.proofs.Common.{inl, inr, ◌⊎◌, ◌≡◌, ℕ, zero, suc, pos, true, false, [], ◌∷◌, None, Some, refl, sym, ap, ◌∙◌, subst, arith}
+use Rattle.std.specs.Prelude.{codes, Contains}
 use Rattle.std.specs.Fmt.{digits}
-use Rattle.std.proofs.lemmas.Bool.{and_parts}
-use Rattle.std.proofs.lemmas.Cmp.{nat_eq_equiv}
-use Rattle.std.proofs.lemmas.Map.Views.{list_any-from_Contains}
 use Rattle.php_syntax.specs.Trees.{PlainExpr, int_expr, text_expr, var_expr, array_expr, assign_expr, and_expr, or_expr, no_expr, some_expr, PlainExprs, no_exprs, more_exprs, no_items, more_items, no_keys, PlainStmt, echo_stmt, run_stmt, inline_stmt, PlainStmts, no_stmts, more_stmts}
 use Rattle.plain_values.specs.Plain.{null, text, int_key, text_key}
-use Rattle.flow_code.specs.Points.{PlainPoint, PlainFlowFunction, PlainFlow, point_at, function_at, points_in, set_point, call_point, print_point, echo_point, branch_point, return_point, literal_source, copy_source, array_source, truth_source, int_ref}
+use Rattle.flow_code.specs.Points.{PlainPoint, PlainFlow, point_at, points_in, set_point, print_point, echo_point, branch_point, return_point, literal_source, copy_source, truth_source, int_ref}
 use Rattle.flow_code.specs.declared.source.Work.TheVariants as work
 use Rattle.flow_code.specs.Lawful.{sets, nexts}
 use Rattle.flow_code.specs.Flat.{flat}
@@ -17,7 +13,7 @@ use Rattle.flow_code.specs.Expressions.{code}
 use Rattle.flow_code.specs.Statements.{block}
 use Rattle.program_expressions.specs.Collected.{collected, collected_of}
 use Rattle.flow_code.specs.Variables.{own_names}
-use Rattle.loose_sets.specs.Reaching.{Definition, at_point, at_entry, Reaches}
+use Rattle.loose_sets.specs.Reaching.{Definition, at_point, Reaches}
 use Rattle.loose_sets.specs.Keys.{literal_key, point_keys, without_key, keys_once, told_keys, may_be}
 use Rattle.least_sets.specs.Forms.{text_form, same_form}
 use Rattle.flow_graph.specs.Returned.{returned_from, returned_slot}
