@@ -8,9 +8,8 @@ ghost use Rattle.extraction.specs.Tables as spec;
 
 use crate::params::is_null;
 use crate::tables::FlowTables;
-use point_listing::{push_entry, push_pairs};
-use point_listing::NamedForm;
 use loose_sets::Aspect;
+use point_listing::{NamedForm, push_entry, push_pairs};
 use std::alloc::Global;
 use text_base::NoMemory;
 

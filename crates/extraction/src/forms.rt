@@ -6,9 +6,9 @@ ghost use Rattle.set_tables.specs.Forms.{form_of};
 ghost use Rattle.extraction.specs.Steps.{IsNameNumbered, IsFormNumbered};
 
 use indexmap::IndexSet;
+use loose_sets::SetName;
 use numbered_sets::number;
 use point_listing::NamedForm;
-use loose_sets::SetName;
 use set_tables::RowForm;
 use text_base::NoMemory;
 

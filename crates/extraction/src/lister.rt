@@ -6,8 +6,8 @@ ghost use Rattle.loose_sets.specs.declared.name.SetName as plain;
 ghost use Rattle.point_listing.specs.Forms.{forms_seen};
 ghost use Rattle.extraction.specs.Asked.{AreAsked};
 
-use point_listing::NamedForm;
 use loose_sets::SetName;
+use point_listing::NamedForm;
 use std::alloc::Global;
 use text_base::NoMemory;
 

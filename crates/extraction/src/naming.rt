@@ -8,9 +8,8 @@ ghost use Rattle.extraction.specs.Tables.{lists_of, further_forms};
 
 use crate::entries::{push_entered, push_results};
 use crate::tables::FlowTables;
-use point_listing::{Place, push_links, push_members, push_named, push_shown};
-use point_listing::NamedForm;
 use loose_sets::{SetName, SetVersion};
+use point_listing::{NamedForm, Place, push_links, push_members, push_named, push_shown};
 use std::alloc::Global;
 use text_base::NoMemory;
 

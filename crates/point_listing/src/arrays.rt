@@ -10,11 +10,10 @@ ghost use Rattle.point_listing.specs.Places.{told_of, at_of, Adds};
 use crate::members::push_array_own;
 use crate::places::Place;
 use crate::pushing::{push_form, push_text, push_where};
-use crate::{is_exactly, is_integer_key, may_be, may_be_other};
+use crate::{NamedForm, is_exactly, is_integer_key, may_be, may_be_other};
 use flow_code::KeyRef;
-use plain_values::decimal;
-use crate::NamedForm;
 use loose_sets::{Aspect, Half};
+use plain_values::decimal;
 use std::alloc::Global;
 use text_base::{NoMemory, Slot};
 

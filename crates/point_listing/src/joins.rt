@@ -7,8 +7,7 @@ ghost use Rattle.loose_sets.specs.Members.{link_forms};
 ghost use Rattle.point_listing.specs.Links.{links_seen};
 ghost use Rattle.point_listing.specs.Places.{Adds};
 
-use crate::{by_numbers, push_link};
-use crate::NamedForm;
+use crate::{NamedForm, by_numbers, push_link};
 use loose_sets::Aspect;
 use ssa_form::{Version, Versions};
 use text_base::{NoMemory, Point, Slot};

@@ -6,11 +6,10 @@ ghost use Rattle.loose_sets.specs.Uses as uses;
 ghost use Rattle.loose_sets.specs.Arrays as arrays;
 ghost use Rattle.point_listing.specs.Places.{told_of, at_of, Adds, member_placed};
 
-use crate::place_of_key;
 use crate::places::Place;
 use crate::pushing::{push_form, push_text};
+use crate::{NamedForm, place_of_key};
 use flow_code::KeyRef;
-use crate::NamedForm;
 use loose_sets::{Aspect, Half, SetName, SetVersion};
 use std::alloc::Global;
 use text_base::{NoMemory, Slot};

@@ -5,8 +5,7 @@ ghost use Rattle.point_listing.specs.Forms.{form_seen};
 ghost use Rattle.loose_sets.specs.Uses as uses;
 ghost use Rattle.point_listing.specs.Views.{key_seen};
 
-use crate::{ToldKey, version_read};
-use crate::NamedForm;
+use crate::{NamedForm, ToldKey, version_read};
 use loose_sets::{Aspect, Half, SetName, SetVersion};
 use ssa_form::Versions;
 use text_base::Slot;

@@ -8,12 +8,11 @@ ghost use Rattle.point_listing.specs.Places.{told_of, at_of, Adds};
 ghost use Rattle.point_listing.specs.Names.{IsAt};
 
 use crate::{
-    Place, push_any_further, push_further, push_inputs, push_joined, push_out, push_outputs,
-    push_piece, push_value,
+    NamedForm, Place, push_any_further, push_further, push_inputs, push_joined, push_out,
+    push_outputs, push_piece, push_value,
 };
 use flow_code::{FlowFunction, FlowPoint};
 use flow_graph::PointRow;
-use crate::NamedForm;
 use loose_sets::{SetName, SetVersion};
 use std::alloc::Global;
 use text_base::NoMemory;

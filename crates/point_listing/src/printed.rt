@@ -6,9 +6,8 @@ ghost use Rattle.point_listing.specs.Forms.{form_seen};
 ghost use Rattle.loose_sets.specs.Printed as printed;
 ghost use Rattle.point_listing.specs.Places.{at_of, Adds};
 
-use crate::{Place, push_form, push_text};
+use crate::{NamedForm, Place, push_form, push_text};
 use flow_code::{FlowFunction, FlowPoint};
-use crate::NamedForm;
 use loose_sets::{Aspect, Half, Leaving, SetName};
 use std::alloc::Global;
 use text_base::{NoMemory, Point, Slot};

@@ -8,15 +8,15 @@ ghost use Rattle.least_sets.specs.Forms.{text_form};
 ghost use Rattle.loose_sets.specs.Sources as spec;
 ghost use Rattle.point_listing.specs.Places.{told_of, at_of, Adds};
 
+use crate::NamedForm;
 use crate::arrays::{is_integer_at, push_array};
 use crate::members::{push_array_own, push_member};
 use crate::places::Place;
 use crate::pushing::{push_form, push_text, push_where};
 use crate::writes::{Write, push_put};
 use flow_code::Source;
-use php_values::Value;
-use crate::NamedForm;
 use loose_sets::{Aspect, Half, SetName, SetVersion};
+use php_values::Value;
 use std::alloc::Global;
 use text_base::{NoMemory, Slot};
 use value_operations::text_of;

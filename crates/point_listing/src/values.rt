@@ -6,9 +6,8 @@ ghost use Rattle.point_listing.specs.Forms.{form_seen};
 ghost use Rattle.loose_sets.specs.Points as points;
 ghost use Rattle.point_listing.specs.Places.{told_of, at_of, Adds};
 
-use crate::{Place, is_own_text, push_form, push_source, push_where};
+use crate::{NamedForm, Place, is_own_text, push_form, push_source, push_where};
 use flow_code::FlowPoint;
-use crate::NamedForm;
 use loose_sets::{Aspect, SetName};
 use std::alloc::Global;
 use text_base::{NoMemory, Slot};

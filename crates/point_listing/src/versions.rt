@@ -7,8 +7,7 @@ ghost use Rattle.loose_sets.specs.Members as spec;
 ghost use Rattle.loose_sets.specs.Functions.{used_pairs, entry_forms};
 ghost use Rattle.point_listing.specs.Places.{Adds};
 
-use crate::{ToldKey, push_form, push_text_alone, version_read};
-use crate::NamedForm;
+use crate::{NamedForm, ToldKey, push_form, push_text_alone, version_read};
 use loose_sets::{Aspect, Half, SetName, SetVersion};
 use ssa_form::Versions;
 use std::alloc::Global;

@@ -7,9 +7,8 @@ ghost use Rattle.loose_sets.specs.Points as points;
 ghost use Rattle.point_listing.specs.Places.{at_of, Adds};
 
 use crate::parts::{Operation, imploded_slots, joined_slots, operation_of, source_at};
-use crate::{Place, push_form, push_text, push_where};
+use crate::{NamedForm, Place, push_form, push_text, push_where};
 use flow_code::FlowPoint;
-use crate::NamedForm;
 use loose_sets::{Aspect, Half, SetName};
 use std::alloc::Global;
 use text_base::{Bytes, NoMemory, Slot};

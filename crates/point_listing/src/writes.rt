@@ -6,12 +6,11 @@ ghost use Rattle.loose_sets.specs.Arrays as arrays;
 ghost use Rattle.point_listing.specs.Places.{told_of, at_of, Adds};
 
 use crate::arrays::{is_exactly_at, may_be_at, push_key};
-use crate::may_be_other;
 use crate::members::push_array_own;
 use crate::places::Place;
 use crate::pushing::{push_form, push_where};
+use crate::{NamedForm, may_be_other};
 use flow_code::KeyRef;
-use crate::NamedForm;
 use loose_sets::{Aspect, Half};
 use std::alloc::Global;
 use text_base::{NoMemory, Slot};
