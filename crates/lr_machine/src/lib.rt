@@ -2,7 +2,7 @@
 //! Promise: of tables that pass the check of lr_tables, `parse` answers what is told of the only
 //! derivation of the tokens (`IsOnly` of its specs/Grammars), or the place of the first one that no
 //! sentence goes on with (`IsFirstWrong` there), or want of memory.
-//! Used by: reading_tests.
+//! Used by: php_grammar, reading_tests.
 #![tactic(auto)]
 
 mod reading;

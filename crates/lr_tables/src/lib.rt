@@ -2,7 +2,7 @@
 //! Promise: of tables that pass it, what is read is derived (`IsSound` of specs/Laws), what is
 //! derived is read, so in one way at most (`IsComplete`), and where the machine stops is the first
 //! token that no sentence goes on with (`IsPlaced`): the contracts of laws.
-//! Used by: lr_machine, reading_tests.
+//! Used by: lr_machine, php_grammar, php_trees, reading_tests.
 #![tactic(auto)]
 
 mod event;
