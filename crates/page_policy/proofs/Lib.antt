@@ -1,0 +1,12 @@
+pub mod SpellLemmas
+pub mod FitLemmas
+pub mod PartLemmas
+pub mod RangeLemmas
+pub mod ClassLemmas
+pub mod CutLemmas
+pub mod FormLemmas
+pub mod BuildLemmas
+pub mod PutLemmas
+pub mod ReadLemmas
+pub mod FeedLemmas
+pub mod Examples
