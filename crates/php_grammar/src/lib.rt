@@ -6,6 +6,8 @@
 #![tactic(auto)]
 
 pub mod actions;
+pub mod form;
+pub mod forms;
 mod reading;
 mod rows;
 pub mod rules;
