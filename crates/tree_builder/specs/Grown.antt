@@ -1,11 +1,20 @@
--- What is built of parts.
-use Rattle.std.specs.Prelude.{◌≡◌, ℕ, ◌<◌, Option, Some, None}
-use Rattle.text_base.specs.declared.limits.TheConstants.{HEIGHT_LIMIT}
-use Rattle.php_syntax.specs.Trees.{PlainExpr, plain_expr}
-use Rattle.php_syntax.specs.Height as high
-use Rattle.tree_builder.specs.declared.operand.Operand.{Operand}
+-- What is kept of statements while they are built: whether a loop or a function has to stand around them.
+use Rattle.std.specs.Prelude.{◌≡◌, Bool, not, ◌&&◌, ◌||◌}
+use Rattle.php_syntax.specs.Trees.{PlainStmt, PlainStmts, PlainArms}
+use Rattle.script_grammar.specs.Rules.{stmt_fits, stmts_fit, arms_fit}
 
--- this expression was built, or is too high
-abbrev pub Grows : Option Operand → PlainExpr → Type 0
-Grows None e = HEIGHT_LIMIT < high.height e
-Grows (Some o) e = plain_expr o.tree ≡ e
+-- whether something may stand where a thing is or is not around it, by whether it needs that
+abbrev pub suits : Bool → Bool → Bool
+suits needs has = has || not needs
+
+-- a statement keeps the rules exactly where a loop stands around it, if it needs one, and a function
+abbrev pub Fits : PlainStmt → Bool → Bool → Type 0
+Fits s needs_loop needs_function = (in_loop in_function : Bool) → stmt_fits in_loop in_function s ≡ (suits needs_loop in_loop && suits needs_function in_function)
+
+-- the same of statements in a row
+abbrev pub AllFit : PlainStmts → Bool → Bool → Type 0
+AllFit ss needs_loop needs_function = (in_loop in_function : Bool) → stmts_fit in_loop in_function ss ≡ (suits needs_loop in_loop && suits needs_function in_function)
+
+-- the same of the arms of an `if`
+abbrev pub ArmsFit : PlainArms → Bool → Bool → Type 0
+ArmsFit arms needs_loop needs_function = (in_loop in_function : Bool) → arms_fit in_loop in_function arms ≡ (suits needs_loop in_loop && suits needs_function in_function)

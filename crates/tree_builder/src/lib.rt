@@ -1,5 +1,6 @@
 //! The trees of a script, built in memory by PHP's grammar.
 #![tactic(auto)]
 
-pub mod operand;
-mod operators;
+mod nodes;
+pub mod trees;
+pub mod value;
