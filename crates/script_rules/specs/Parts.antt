@@ -154,13 +154,18 @@ abbrev pub own_left_out : Form → ℕ → List Part → Option Value → Option
 own_left_out f at ps None = or_else (first_misplaced ps) (Some (record { form = f; at = at }))
 own_left_out f at ps (Some v) = Some (record { form = broken_form f v; at = at })
 
--- The first form that is left out of a part, by the order in which they begin: a rule that is outside of the language, or, where each part
--- stands for something, a rule that makes nothing of them.
-abbrev pub left_out_by : ℕ → List Part → Action → Option Value → Option LeftOut
-left_out_by p ps action.Outside v =
+-- whether a rule is outside of the language
+abbrev pub is_outside : Action → Bool
+is_outside action.Outside = true
+is_outside _ = false
+
+-- The first form that is left out of a part that stands for nothing, by the order in which they begin: a rule that is outside of the
+-- language, or, where each part stands for something, a rule that makes nothing of them.
+abbrev pub left_out_by : ℕ → List Part → Bool → Option Value → Option LeftOut
+left_out_by p ps outside (Some v) = None
+left_out_by p ps true None =
     or_else (left_out_before (continues (slice_get RULES p)) ps) (Some (record { form = form_by p; at = own_place (continues (slice_get RULES p)) ps }))
-left_out_by p ps a (Some v) = None
-left_out_by p ps a None =
+left_out_by p ps false None =
     or_else (first_left_out ps) (own_left_out (form_by p) (own_place (continues (slice_get RULES p)) ps) ps (and_then (all_values ps) (act p)))
 
 -- what a rule makes of its parts
@@ -172,7 +177,7 @@ abbrev pub judge : ℕ → List Part → Part
 judge p ps = record {
   begins = first_place ps;
   value = value_by p ps;
-  left_out = left_out_by p ps (action_by p) (value_by p ps);
+  left_out = left_out_by p ps (is_outside (action_by p)) (value_by p ps);
   high = any_high ps || is_high (value_by p ps);
 }
 
