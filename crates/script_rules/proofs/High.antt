@@ -53,23 +53,27 @@ split false true true e = refl
 split false true false e = refl
 split false false c e = or_second c false e
 
-mutual
-  high_made : (es : List event.Event) (ks : List PlainToken) (stack out : List Part) → make php.grammar judged es ks stack ≡ Some out → any_high stack ≡ true → any_high out ≡ true
-  unfolding make
-  high_made [] ks stack out e h = ap any_high (sym (some_is e)) ∙ h
-  high_made (event.TheVariants.Token ∷ es) [] stack out e h = none_some e
-  high_made (event.TheVariants.Token ∷ es) (k ∷ ks) stack out e h = high_made es ks (judged.leaf k ∷ stack) out e h
-  high_made (event.TheVariants.Rule p ∷ es) ks stack out e h = high_rule es ks p stack out (slice_get php.grammar.rules p) e h
+-- what comes of a stack with a part that is too high has one
+abbrev StaysHigh : (List PlainToken → List Part → Option (List Part)) → Type 0
+StaysHigh next = (ks : List PlainToken) (stack out : List Part) → next ks stack ≡ Some out → any_high stack ≡ true → any_high out ≡ true
 
-  high_rule : (es : List event.Event) (ks : List PlainToken) (p : ℕ) (stack out : List Part) (o : Option Rule) → by_rule php.grammar judged (make php.grammar judged es) p ks stack o ≡ Some out → any_high stack ≡ true → any_high out ≡ true
-  high_rule es ks p stack out None e h = none_some e
-  high_rule es ks p stack out (Some r) e h = high_acted es ks p stack out (onto (side r) []) (taken (onto (side r) []) stack []) refl e h
+high_acted : (next : List PlainToken → List Part → Option (List Part)) → StaysHigh next → (ks : List PlainToken) (p : ℕ) (stack out : List Part) (xs : List ℕ) (o : Option (List Part × List Part))
+    → taken xs stack [] ≡ o → acted_on php.grammar judged next p ks o ≡ Some out → any_high stack ≡ true → any_high out ≡ true
+high_acted next stays ks p stack out xs None is e h = none_some e
+high_acted next stays ks p stack out xs (Some t) is e h =
+    stays ks (judge p t.0 ∷ t.1) out e (split (any_high t.0) (any_high t.1) (is_high (value_by p t.0)) (high_taken xs stack [] t is ∙ or_last (any_high stack) ∙ h))
 
-  high_acted : (es : List event.Event) (ks : List PlainToken) (p : ℕ) (stack out : List Part) (xs : List ℕ) (o : Option (List Part × List Part)) → taken xs stack [] ≡ o
-      → acted_on php.grammar judged (make php.grammar judged es) p ks o ≡ Some out → any_high stack ≡ true → any_high out ≡ true
-  high_acted es ks p stack out xs None is e h = none_some e
-  high_acted es ks p stack out xs (Some t) is e h =
-      high_made es ks (judge p t.0 ∷ t.1) out e (split (any_high t.0) (any_high t.1) (is_high (value_by p t.0)) (high_taken xs stack [] t is ∙ or_last (any_high stack) ∙ h))
+high_rule : (next : List PlainToken → List Part → Option (List Part)) → StaysHigh next → (ks : List PlainToken) (p : ℕ) (stack out : List Part) (o : Option Rule)
+    → by_rule php.grammar judged next p ks stack o ≡ Some out → any_high stack ≡ true → any_high out ≡ true
+high_rule next stays ks p stack out None e h = none_some e
+high_rule next stays ks p stack out (Some r) e h = high_acted next stays ks p stack out (onto (side r) []) (taken (onto (side r) []) stack []) refl e h
+
+high_made : (es : List event.Event) (ks : List PlainToken) (stack out : List Part) → make php.grammar judged es ks stack ≡ Some out → any_high stack ≡ true → any_high out ≡ true
+unfolding make
+high_made [] ks stack out e h = ap any_high (sym (some_is e)) ∙ h
+high_made (event.TheVariants.Token ∷ es) [] stack out e h = none_some e
+high_made (event.TheVariants.Token ∷ es) (k ∷ ks) stack out e h = high_made es ks (judged.leaf k ∷ stack) out e h
+high_made (event.TheVariants.Rule p ∷ es) ks stack out e h = high_rule (make php.grammar judged es) (high_made es) ks p stack out (slice_get php.grammar.rules p) e h
 
 no_kinds : (ts : List PlainToken) → kinds judged ts ≡ [] → ts ≡ []
 no_kinds [] e = refl

@@ -17,7 +17,7 @@ some_is e = cc
 none_some : {A : Type 0} {x : A} {P : Type 0} → None ≡ Some x → P
 none_some e = cc
 
-cons_is : {A : Type 0} {x : A} {xs ys : List A} {P : Type 0} → [] ≡ x ∷ xs → P
+cons_is : {A : Type 0} {x : A} {xs : List A} {P : Type 0} → [] ≡ x ∷ xs → P
 cons_is e = cc
 
 first_is : {A : Type 0} {x y : A} {xs ys : List A} → x ∷ xs ≡ y ∷ ys → x ≡ y

@@ -1,5 +1,6 @@
 -- What is left out, and what is not, of a whole script.
 use Rattle.std.proofs.Common.{◌≡◌, ℕ, Bool, true, false, List, [], ◌∷◌, refl, sym, ◌∙◌, ap, subst, Option, Some, None, if◌then◌else◌}
+use Rattle.std.specs.Prelude.{slice_get}
 use Rattle.lr_tables.specs.Grammars.{Grammar}
 use Rattle.lr_tables.specs.Values.{Has, token, made, HasValue}
 use Rattle.lr_tables.proofs.Complete.{tables_of}
@@ -8,6 +9,7 @@ use Rattle.php_syntax.specs.Tokens.{PlainKind, PlainToken}
 use Rattle.php_syntax.specs.Trees.{PlainFile}
 use Rattle.php_grammar.specs.Certificate.{certificate}
 use Rattle.php_grammar.specs.Php.{php}
+use Rattle.php_grammar.specs.declared.rules.TheConstants.{RULES}
 use Rattle.php_grammar.proofs.AreGood.{are_good}
 use Rattle.php_trees.specs.Values.{Value, file}
 use Rattle.php_trees.specs.Rules.{keeps, kept}
@@ -68,8 +70,8 @@ own_some f at ps None = or_some (first_misplaced ps) (record { form = f; at = at
 own_some f at ps (Some v) = record { found = _; is = refl }
 
 left_out_none : (p : ℕ) (ps : List Part) (outside : Bool) → SomeLeftOut (left_out_by p ps outside None)
-left_out_none p ps true = or_some (left_out_before (continues _) ps) _
-left_out_none p ps false = or_other (first_left_out ps) _ (own_some (form_by p) (own_place (continues _) ps) ps (and_then (all_values ps) (act p)))
+left_out_none p ps true = or_some (left_out_before (continues (slice_get RULES p)) ps) (record { form = form_by p; at = own_place (continues (slice_get RULES p)) ps })
+left_out_none p ps false = or_other (first_left_out ps) _ (own_some (form_by p) (own_place (continues (slice_get RULES p)) ps) ps (and_then (all_values ps) (act p)))
 
 left_out_some : (p : ℕ) (ps : List Part) (outside : Bool) (o : Option Value) → o ≡ None → SomeLeftOut (left_out_by p ps outside o)
 left_out_some p ps outside None e = left_out_none p ps outside
