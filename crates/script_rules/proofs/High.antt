@@ -3,8 +3,8 @@ use Rattle.std.proofs.Common.{◌≡◌, ℕ, Bool, true, false, List, [], ◌�
 use Rattle.std.specs.Prelude.{◌||◌, slice_get}
 use Rattle.lr_tables.specs.declared.rule.Rule.{Rule}
 use Rattle.lr_tables.specs.declared.event.Event as event
-use Rattle.lr_tables.specs.Grammars.{onto, side, IsDerived, IsOnly}
-use Rattle.lr_tables.specs.Values.{kinds, Has, HasValue, taken, kept, acted_on, by_rule, by_token, make}
+use Rattle.lr_tables.specs.Grammars.{onto, side, IsOnly}
+use Rattle.lr_tables.specs.Values.{kinds, Has, taken, acted_on, by_rule, make}
 use Rattle.lr_tables.proofs.Making.{are_made}
 use Rattle.php_syntax.specs.Tokens.{PlainToken}
 use Rattle.php_grammar.specs.Php.{php}

@@ -1,10 +1,9 @@
 -- Derivations whose parts are judged are those of the language as far as their parts stand for something.
-use Rattle.std.proofs.Common.{◌≡◌, ℕ, ◌+◌, ◌<◌, arith, true, false, nat_lt, List, [], ◌∷◌, refl, sym, ◌∙◌, ap, subst, Option, Some, None, map}
-use Rattle.std.specs.Prelude.{slice_get}
+use Rattle.std.proofs.Common.{◌≡◌, ℕ, true, false, nat_lt, List, [], ◌∷◌, refl, sym, ◌∙◌, ap, subst, Option, Some, None}
 use Rattle.lr_tables.specs.declared.rule.Rule.{Rule}
 use Rattle.lr_tables.specs.declared.event.Event as event
-use Rattle.lr_tables.specs.Grammars.{Grammar, head, is_blocked, is_barred, side, IsDerived, Derives, leaf, node, Spells, none, more}
-use Rattle.lr_tables.specs.Values.{kinds, Has, Have, token, made, nothing, further, HasValue}
+use Rattle.lr_tables.specs.Grammars.{Grammar, head, is_blocked, Derives, leaf, node, Spells, none, more}
+use Rattle.lr_tables.specs.Values.{kinds, Has, Have, token, made, nothing, further}
 use Rattle.php_syntax.specs.Tokens.{PlainKind, PlainToken}
 use Rattle.php_trees.specs.Values.{Value, leaf as leaf_value}
 use Rattle.php_trees.specs.Actions.{of_two, and_then}

@@ -15,8 +15,8 @@ use Rattle.php_trees.specs.Values.{Value, file}
 use Rattle.php_trees.specs.Rules.{keeps, kept}
 use Rattle.php_trees.specs.Actions.{act, and_then}
 use Rattle.php_trees.specs.Reads.{language, parts, ReadAs}
-use Rattle.script_rules.specs.Parts.{LeftOut, Part, or_else, first_left_out, first_misplaced, own_left_out, left_out_before, continues, own_place, form_by, is_outside, action_by, left_out_by, value_by, all_values, judge, judged}
-use Rattle.script_rules.specs.Refused.{HasLeftOut, IsReadWhole, IsReadAsNone, IsOneForm}
+use Rattle.script_rules.specs.Parts.{LeftOut, Part, or_else, first_left_out, first_misplaced, own_left_out, left_out_before, continues, own_place, form_by, is_outside, action_by, left_out_by, value_by, all_values, judged}
+use Rattle.script_rules.specs.Refused.{IsReadWhole, IsReadAsNone, IsOneForm}
 use Rattle.script_rules.proofs.Judged.{value_of_part, part_of_value}
 
 some_is : {A : Type 0} {a b : A} → Some a ≡ Some b → a ≡ b

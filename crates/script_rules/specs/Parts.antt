@@ -4,7 +4,7 @@ use Rattle.text_base.specs.declared.limits.TheConstants.{HEIGHT_LIMIT}
 use Rattle.lr_tables.specs.declared.rule.Rule.{Rule}
 use Rattle.lr_tables.specs.Grammars.{side, head}
 use Rattle.lr_tables.specs.Values.{Meaning}
-use Rattle.php_syntax.specs.Tokens.{PlainKind, PlainToken}
+use Rattle.php_syntax.specs.Tokens.{PlainToken}
 use Rattle.php_syntax.specs.Trees.{PlainPath, no_keys, more_keys}
 use Rattle.php_syntax.specs.Height.{height, maybe_height, exprs_height, items_height, stmts_height, arms_height, params_height, functions_height, file_height}
 use Rattle.php_grammar.specs.declared.actions.Action.{Action}

@@ -1,5 +1,5 @@
 -- What is told of scripts that are read as no tree, or of too high a tree.
-use Rattle.std.specs.Prelude.{◌≡◌, true, false, List, Option, Some, None}
+use Rattle.std.specs.Prelude.{◌≡◌, true, List, Some}
 use Rattle.lr_tables.specs.Values.{HasValue}
 use Rattle.php_syntax.specs.Tokens.{PlainToken}
 use Rattle.php_syntax.specs.Trees.{PlainFile}
