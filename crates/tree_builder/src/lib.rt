@@ -1,6 +1,7 @@
-//! The trees of a script, built in memory by PHP's grammar.
+//! The trees of scripts, built in memory by PHP's grammar.
 #![tactic(auto)]
 
-mod nodes;
-pub mod trees;
-pub mod value;
+pub mod builder;
+pub mod gathered;
+pub mod kinds;
+mod parts;

@@ -6,7 +6,7 @@ ghost use Rattle.php_syntax.specs.Trees.{plain_expr, maybe_of, exprs_of, items_o
 ghost use Rattle.php_syntax.specs.Height as highs;
 ghost use Rattle.script_grammar.specs.Rules as rules;
 ghost use Rattle.script_rules.specs.Parts.{read_height};
-ghost use Rattle.tree_builder.specs.Grown.{AllFit, ArmsFit};
+ghost use Rattle.tree_values.specs.Grown.{AllFit, ArmsFit};
 
 use indexmap::IndexSet;
 use php_syntax::tree::{Expr, FileTree, FunctionDef, Param, Stmt};

@@ -1,12 +1,12 @@
 //! Expressions that are built of others.
 
-ghost use Rattle.std.specs.Prelude.{◌≡◌, ◌+◌, ◌×◌, true, max, codes, IfOk};
+ghost use Rattle.std.specs.Prelude.{◌≡◌, ◌+◌, true, max, codes, IfOk};
 ghost use Rattle.std.specs.Str.{str_to_ascii_lowercase};
 ghost use Rattle.php_syntax.specs.Trees.{plain_expr, exprs_of, items_of, maybe_of, path_of, join_expr, member_expr, array_expr, coalesce_expr, choice_expr, isset_expr, empty_expr, assign_expr, update_expr, step_expr, call_expr, no_expr, some_expr, more_exprs, no_exprs};
 ghost use Rattle.php_syntax.specs.Height as highs;
 ghost use Rattle.script_grammar.specs.Rules.{expr_fits, all_places};
 ghost use Rattle.script_grammar.specs.Expressions as tree;
-ghost use Rattle.tree_builder.specs.Shown.{Builds};
+ghost use Rattle.tree_values.specs.Shown.{Builds};
 
 use crate::trees::{Chain, Items, Operand, Place, Row};
 use crate::value::Built;
@@ -19,7 +19,7 @@ use text_base::limits::HEIGHT_LIMIT;
 use text_base::{Bytes, NoMemory};
 
 /// An expression whose highest part is so high, unless it is over 200 high.
-pub(crate) fn grown(tree: Expr, below: u32) -> Built
+pub fn grown(tree: Expr, below: u32) -> Built
     requires high { highs.height (plain_expr tree) ≡ 1 + below }
     requires fits { expr_fits (plain_expr tree) ≡ true }
     ensures { Builds result (plain_expr tree) }
@@ -34,7 +34,7 @@ pub(crate) fn grown(tree: Expr, below: u32) -> Built
 
 /// The tree of a variable: those of the request are their own.
 #[tactic(auto, using(php_syntax::proofs::Views::views))]
-pub(crate) fn variable_tree(alloc: Global, name: &Bytes) -> Result<Expr, NoMemory>
+pub fn variable_tree(alloc: Global, name: &Bytes) -> Result<Expr, NoMemory>
     ensures { IfOk result (λ e. plain_expr e ≡ tree.variable_tree name.now) }
 {
     match request_named(name.as_slice()) {
@@ -70,7 +70,7 @@ fn prefix_tree(alloc: Global, prefix: Prefix, operand: Expr) -> Result<Expr, NoM
 
 /// An operator before an operand.
 #[tactic(auto, using(php_syntax::proofs::Views::views, crate::proofs::NodeLemmas::nodes))]
-pub(crate) fn prefix(alloc: Global, prefix: Prefix, operand: Operand) -> Result<Built, NoMemory>
+pub fn prefix(alloc: Global, prefix: Prefix, operand: Operand) -> Result<Built, NoMemory>
     ensures { IfOk result (λ built. Builds built (tree.prefix_tree prefix (plain_expr operand.tree))) }
 {
     let below = operand.height;
@@ -124,7 +124,7 @@ fn operator_tree(
 
 /// An operator between two operands.
 #[tactic(auto, using(php_syntax::proofs::Views::views, crate::proofs::NodeLemmas::nodes))]
-pub(crate) fn operation(
+pub fn operation(
     alloc: Global,
     operator: Operator,
     left: Operand,
@@ -140,7 +140,7 @@ pub(crate) fn operation(
 
 /// `??` between two operands.
 #[tactic(auto, using(php_syntax::proofs::Views::views, crate::proofs::NodeLemmas::nodes))]
-pub(crate) fn coalesce(alloc: Global, left: Operand, right: Operand) -> Result<Built, NoMemory>
+pub fn coalesce(alloc: Global, left: Operand, right: Operand) -> Result<Built, NoMemory>
     ensures { IfOk result (λ built.
         Builds built (coalesce_expr (plain_expr left.tree) (plain_expr right.tree))) }
 {
@@ -151,7 +151,7 @@ pub(crate) fn coalesce(alloc: Global, left: Operand, right: Operand) -> Result<B
 
 /// A member of the first by the second.
 #[tactic(auto, using(php_syntax::proofs::Views::views, crate::proofs::NodeLemmas::nodes))]
-pub(crate) fn member(alloc: Global, array: Operand, key: Operand) -> Result<Built, NoMemory>
+pub fn member(alloc: Global, array: Operand, key: Operand) -> Result<Built, NoMemory>
     ensures { IfOk result (λ built.
         Builds built (member_expr (plain_expr array.tree) (plain_expr key.tree))) }
 {
@@ -162,7 +162,7 @@ pub(crate) fn member(alloc: Global, array: Operand, key: Operand) -> Result<Buil
 
 /// `?:` between two operands.
 #[tactic(auto, using(php_syntax::proofs::Views::views, crate::proofs::NodeLemmas::nodes))]
-pub(crate) fn short_choice(alloc: Global, left: Operand, right: Operand) -> Result<Built, NoMemory>
+pub fn short_choice(alloc: Global, left: Operand, right: Operand) -> Result<Built, NoMemory>
     ensures { IfOk result (λ built.
         Builds built (choice_expr (plain_expr left.tree) no_expr (plain_expr right.tree))) }
 {
@@ -173,7 +173,7 @@ pub(crate) fn short_choice(alloc: Global, left: Operand, right: Operand) -> Resu
 
 /// `?` and `:` between three operands.
 #[tactic(auto, using(php_syntax::proofs::Views::views, crate::proofs::NodeLemmas::nodes))]
-pub(crate) fn choice(
+pub fn choice(
     alloc: Global,
     left: Operand,
     middle: Operand,
@@ -190,7 +190,7 @@ pub(crate) fn choice(
 
 /// A chain of `.` as an expression.
 #[tactic(auto, using(php_syntax::proofs::Views::views, crate::proofs::NodeLemmas::nodes))]
-pub(crate) fn join(chain: Chain) -> Operand
+pub fn join(chain: Chain) -> Operand
     ensures { plain_expr result.tree ≡ join_expr (exprs_of chain.exprs.items) }
 {
     let height = chain.height + 1;
@@ -214,7 +214,7 @@ fn are_places(exprs: &[Expr]) -> bool
 
 /// `isset` of operands.
 #[tactic(auto, using(php_syntax::proofs::Views::views, crate::proofs::NodeLemmas::nodes))]
-pub(crate) fn isset(row: Row) -> Built
+pub fn isset(row: Row) -> Built
     ensures { Builds result (isset_expr (exprs_of row.exprs.items)) }
 {
     if !are_places(row.exprs.as_slice()) {
@@ -226,7 +226,7 @@ pub(crate) fn isset(row: Row) -> Built
 
 /// `empty` of an operand.
 #[tactic(auto, using(php_syntax::proofs::Views::views, crate::proofs::NodeLemmas::nodes))]
-pub(crate) fn empty(alloc: Global, operand: Operand) -> Result<Built, NoMemory>
+pub fn empty(alloc: Global, operand: Operand) -> Result<Built, NoMemory>
     ensures { IfOk result (λ built. Builds built (empty_expr (plain_expr operand.tree))) }
 {
     if !is_place(&operand.tree) {
@@ -238,7 +238,7 @@ pub(crate) fn empty(alloc: Global, operand: Operand) -> Result<Built, NoMemory>
 
 /// A call of a function by its name in lower case.
 #[tactic(auto, using(php_syntax::proofs::Views::views, crate::proofs::NodeLemmas::nodes))]
-pub(crate) fn call(name: Bytes, row: Row) -> Built
+pub fn call(name: Bytes, row: Row) -> Built
     ensures { Builds result (call_expr name (exprs_of row.exprs.items)) }
 {
     let below = row.height;
@@ -247,7 +247,7 @@ pub(crate) fn call(name: Bytes, row: Row) -> Built
 
 /// An array of items.
 #[tactic(auto, using(php_syntax::proofs::Views::views, crate::proofs::NodeLemmas::nodes))]
-pub(crate) fn array(items: Items) -> Built
+pub fn array(items: Items) -> Built
     ensures { Builds result (array_expr (items_of items.items.items)) }
 {
     let below = items.height;
@@ -256,9 +256,9 @@ pub(crate) fn array(items: Items) -> Built
 
 /// An assignment to a variable by keys.
 #[tactic(auto, using(php_syntax::proofs::Views::views, crate::proofs::NodeLemmas::nodes))]
-pub(crate) fn assign(alloc: Global, place: Place, value: Operand) -> Result<Built, NoMemory>
+pub fn assign(alloc: Global, place: Place, value: Operand) -> Result<Built, NoMemory>
     ensures { IfOk result (λ built. Builds built
-        (assign_expr place.name.now (path_of place.keys.items) (plain_expr value.tree))) }
+        (assign_expr place.entry.name.now (path_of place.entry.keys.items) (plain_expr value.tree))) }
 {
     if !is_writable(place.name.as_slice()) || !place.before_last {
         return Ok(Built::Broken);
@@ -272,14 +272,14 @@ pub(crate) fn assign(alloc: Global, place: Place, value: Operand) -> Result<Buil
 
 /// An assignment that reads its target first.
 #[tactic(auto, using(php_syntax::proofs::Views::views, crate::proofs::NodeLemmas::nodes))]
-pub(crate) fn update(
+pub fn update(
     alloc: Global,
     sign: UpdateSign,
     place: Place,
     value: Operand,
 ) -> Result<Built, NoMemory>
     ensures { IfOk result (λ built. Builds built
-        (update_expr sign place.name.now (path_of place.keys.items) (plain_expr value.tree))) }
+        (update_expr sign place.entry.name.now (path_of place.entry.keys.items) (plain_expr value.tree))) }
 {
     if !is_writable(place.name.as_slice()) || !place.complete {
         return Ok(Built::Broken);
@@ -293,7 +293,7 @@ pub(crate) fn update(
 
 /// `++` (`up`) or `--` of a variable, before it or after it.
 #[tactic(auto, using(php_syntax::proofs::Views::views, crate::proofs::NodeLemmas::nodes))]
-pub(crate) fn step(alloc: Global, name: &Bytes, up: bool, before: bool) -> Result<Built, NoMemory>
+pub fn step(alloc: Global, name: &Bytes, up: bool, before: bool) -> Result<Built, NoMemory>
     ensures { IfOk result (λ built. Builds built (step_expr name.now up before)) }
 {
     if !is_writable(name.as_slice()) {

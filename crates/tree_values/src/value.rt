@@ -108,8 +108,10 @@ pub enum Value<'a> {
 pub enum Made<'a> {
     /// This value.
     Value(Value<'a>),
-    /// Nothing, or what breaks a rule beside the grammar.
+    /// Nothing.
     Nothing,
+    /// A value that breaks a rule beside the grammar.
+    Broken,
     /// A value that is over 200 high.
     High,
 }

@@ -6,7 +6,7 @@ use Rattle.php_syntax.specs.Trees.{PlainExpr, plain_expr, MaybeExpr, no_expr, so
 use Rattle.php_syntax.specs.Height.{height, maybe_height, exprs_height, items_height}
 use Rattle.script_grammar.specs.Rules.{expr_fits, maybe_fits, exprs_fit, items_fit}
 use Rattle.php_trees.specs.Values.{exprs_and, items_and, exprs, condition_of}
-use Rattle.tree_builder.proofs.NodeLemmas.{both, first_of, second_of}
+use Rattle.tree_values.proofs.NodeLemmas.{both, first_of, second_of}
 
 -- a row with one more expression
 abbrev pub and_expr : PlainExprs → PlainExpr → PlainExprs

@@ -1,5 +1,5 @@
 -- Values in memory as those of php_trees.
-use Rattle.std.specs.Prelude.{◌≡◌, ◌<◌, ℕ, true, false, List, [], ◌∷◌, map, reverse, Option, Some, None}
+use Rattle.std.specs.Prelude.{◌≡◌, ◌<◌, ℕ, true, false, List, [], ◌∷◌, map, reverse, Option, Some, None, is_some}
 use Rattle.text_base.specs.declared.limits.TheConstants.{HEIGHT_LIMIT}
 use Rattle.php_syntax.specs.Tokens.{plain_kind}
 use Rattle.php_syntax.specs.Trees.{PlainExpr, int_expr, text_expr, join_expr, plain_expr, maybe_of, exprs_of, items_of, path_of, stmts_of, arms_of, params_of_list, plain_function, plain_file}
@@ -8,20 +8,20 @@ use Rattle.script_grammar.specs.Rules.{expr_fits}
 use Rattle.php_trees.specs.Values as plain
 use Rattle.php_trees.specs.Rules.{keeps, kept}
 use Rattle.script_rules.specs.Parts.{is_high}
-use Rattle.tree_builder.specs.declared.value.Spelling.{Spelling}
-use Rattle.tree_builder.specs.declared.value.Spelling.TheVariants as spelling
-use Rattle.tree_builder.specs.declared.value.Argument.{Argument}
-use Rattle.tree_builder.specs.declared.value.Argument.TheVariants as argument
-use Rattle.tree_builder.specs.declared.value.Spelled.{Spelled}
-use Rattle.tree_builder.specs.declared.value.Spelled.TheVariants as spelled
-use Rattle.tree_builder.specs.declared.value.Alone.{Alone}
-use Rattle.tree_builder.specs.declared.value.Alone.TheVariants as alone
-use Rattle.tree_builder.specs.declared.value.Value.{Value}
-use Rattle.tree_builder.specs.declared.value.Value.TheVariants as value
-use Rattle.tree_builder.specs.declared.value.Made.{Made}
-use Rattle.tree_builder.specs.declared.value.Made.TheVariants as made
-use Rattle.tree_builder.specs.declared.value.Built.{Built}
-use Rattle.tree_builder.specs.declared.value.Built.TheVariants as built
+use Rattle.tree_values.specs.declared.value.Spelling.{Spelling}
+use Rattle.tree_values.specs.declared.value.Spelling.TheVariants as spelling
+use Rattle.tree_values.specs.declared.value.Argument.{Argument}
+use Rattle.tree_values.specs.declared.value.Argument.TheVariants as argument
+use Rattle.tree_values.specs.declared.value.Spelled.{Spelled}
+use Rattle.tree_values.specs.declared.value.Spelled.TheVariants as spelled
+use Rattle.tree_values.specs.declared.value.Alone.{Alone}
+use Rattle.tree_values.specs.declared.value.Alone.TheVariants as alone
+use Rattle.tree_values.specs.declared.value.Value.{Value}
+use Rattle.tree_values.specs.declared.value.Value.TheVariants as value
+use Rattle.tree_values.specs.declared.value.Made.{Made}
+use Rattle.tree_values.specs.declared.value.Made.TheVariants as made
+use Rattle.tree_values.specs.declared.value.Built.{Built}
+use Rattle.tree_values.specs.declared.value.Built.TheVariants as built
 
 -- how an expression is spelled
 abbrev pub plain_spelling : Spelling → plain.Spelling
@@ -74,10 +74,12 @@ plain_value (value.Params ps) = plain.params (params_of_list ps.params.items)
 plain_value (value.Function f) = plain.function (plain_function f.tree)
 plain_value (value.File f) = plain.file (plain_file f.tree)
 
--- the code makes what an action says of values that keep the rules; `None` where it says nothing, or what breaks a rule
+-- the code makes what an action says: a value that keeps the rules beside the grammar, nothing, a value that breaks one, or one that is too
+-- high
 abbrev pub Makes : Made → Option plain.Value → Type 0
 Makes (made.Value v) o = o ≡ Some (plain_value v)
-Makes made.Nothing o = kept o ≡ None
+Makes made.Nothing o = o ≡ None
+Makes made.Broken o = (is_some o ≡ true) × (kept o ≡ None)
 Makes made.High o = is_high (kept o) ≡ true
 
 -- the code builds this expression, if it keeps the rules and is not too high

@@ -1,6 +1,6 @@
 //! Variables with keys.
 
-ghost use Rattle.std.specs.Prelude.{◌≡◌, ◌×◌, ◌<◌, Some, None, MatchOption, IfOk};
+ghost use Rattle.std.specs.Prelude.{◌≡◌, ◌<◌, false, Some, None, MatchOption, IfOk};
 ghost use Rattle.text_base.specs.declared.limits.TheConstants.{HEIGHT_LIMIT};
 ghost use Rattle.php_syntax.specs.Trees.{plain_expr, maybe_of, path_of, member_expr, more_keys, no_keys};
 ghost use Rattle.script_grammar.specs.Expressions.{variable_tree as tree_of_variable};
@@ -46,10 +46,10 @@ fn member_by(alloc: Global, array: Expr, keys: Vec<Option<Expr>>) -> Result<Opti
 }
 
 /// A variable with keys as an expression; None where a key is left out.
-pub(crate) fn read(alloc: Global, place: Place) -> Result<Option<Operand>, NoMemory>
+pub fn read(alloc: Global, place: Place) -> Result<Option<Operand>, NoMemory>
     ensures { IfOk result (λ found. MatchOption found
-        (member_read (tree_of_variable place.name.now) (path_of place.keys.items) ≡ None)
-        (λ o. member_read (tree_of_variable place.name.now) (path_of place.keys.items)
+        (member_read (tree_of_variable place.entry.name.now) (path_of place.entry.keys.items) ≡ None)
+        (λ o. member_read (tree_of_variable place.entry.name.now) (path_of place.entry.keys.items)
         ≡ Some (plain_expr o.tree))) }
 {
     let height = place.height;
@@ -63,7 +63,7 @@ pub(crate) fn read(alloc: Global, place: Place) -> Result<Option<Operand>, NoMem
 impl<'a> Place<'a> {
     /// A variable without keys, if the language has it.
     #[tactic(auto, unfolding(php_syntax::specs::Height::height, script_grammar::specs::Rules::expr_fits))]
-    pub(crate) fn new(alloc: Global, name: &'a Bytes) -> Option<Place<'a>>
+    pub fn new(alloc: Global, name: &'a Bytes) -> Option<Place<'a>>
         ensures { MatchOption result
             (is_known name.now ≡ false)
             (λ p. (p.name.now ≡ name.now) × (path_of p.keys.items ≡ no_keys)) }
@@ -83,11 +83,11 @@ impl<'a> Place<'a> {
 
     /// The variable with one more key, unless its member is then over 200 high.
     #[tactic(auto, using(crate::proofs::PathLemmas::paths))]
-    pub(crate) fn with(self, key: Optional) -> Result<Option<Place<'a>>, NoMemory>
+    pub fn with(self, key: Optional) -> Result<Option<Place<'a>>, NoMemory>
         ensures { IfOk result (λ found. MatchOption found
-            (HEIGHT_LIMIT < read_height 1 (path_and (path_of self.keys.items) (more_keys (maybe_of key.tree) no_keys)))
-            (λ p. (p.name.now ≡ self.name.now)
-            × (path_of p.keys.items ≡ path_and (path_of self.keys.items) (more_keys (maybe_of key.tree) no_keys)))) }
+            (HEIGHT_LIMIT < read_height 1 (path_and (path_of self.entry.keys.items) (more_keys (maybe_of key.tree) no_keys)))
+            (λ p. (p.name.now ≡ self.entry.name.now)
+            × (path_of p.keys.items ≡ path_and (path_of self.entry.keys.items) (more_keys (maybe_of key.tree) no_keys)))) }
     {
         let below = self.height.max(key.height);
         if below >= HEIGHT_LIMIT {
@@ -110,10 +110,10 @@ impl<'a> Place<'a> {
     }
 
     /// The variable, if it has no keys.
-    pub(crate) fn bare(self) -> Option<&'a Bytes>
+    pub fn bare(self) -> Option<&'a Bytes>
         ensures { MatchOption result
-            (plain.variable_of (plain.place self.name.now (path_of self.keys.items)) ≡ None)
-            (λ x. plain.variable_of (plain.place self.name.now (path_of self.keys.items)) ≡ Some x.now) }
+            (plain.variable_of (plain.place self.entry.name.now (path_of self.entry.keys.items)) ≡ None)
+            (λ x. plain.variable_of (plain.place self.entry.name.now (path_of self.entry.keys.items)) ≡ Some x.now) }
     {
         if self.keys.is_empty() {
             Some(self.name)

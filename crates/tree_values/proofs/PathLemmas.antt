@@ -9,7 +9,7 @@ use Rattle.script_grammar.specs.Expressions.{variable_tree, request_or}
 use Rattle.script_grammar.specs.Rules.{expr_fits, maybe_fits, path_fits, all_keyed, keyed_before_last, is_known, request_named}
 use Rattle.script_rules.specs.Parts.{read_height}
 use Rattle.php_trees.specs.Values.{path_and, member_read}
-use Rattle.tree_builder.proofs.NodeLemmas.{both, first_of, second_of}
+use Rattle.tree_values.proofs.NodeLemmas.{both, first_of, second_of}
 
 -- a path with one more key
 abbrev pub and_key : PlainPath → MaybeExpr → PlainPath

@@ -1,13 +1,14 @@
 //! Values as what rules ask for.
 
-ghost use Rattle.std.specs.Prelude.{◌≡◌, ◌×◌, if◌then◌else◌, Some, None, MatchOption, IfOk, map, reverse};
-ghost use Rattle.php_syntax.specs.Trees.{plain_expr, text_expr, int_expr, maybe_of, exprs_of, stmts_of, arms_of, params_of_list, plain_file};
+ghost use Rattle.std.specs.Prelude.{◌≡◌, if◌then◌else◌, Some, None, MatchOption, IfOk, map, reverse};
+ghost use Rattle.php_syntax.specs.Trees.{plain_expr, text_expr, int_expr, maybe_of, exprs_of, items_of, path_of, stmts_of, arms_of, params_of_list, plain_file};
 ghost use Rattle.php_trees.specs.Values as plain;
-ghost use Rattle.tree_builder.specs.Shown.{plain_spelled, plain_value, plain_argument};
+ghost use Rattle.php_trees.specs.Actions as actions;
+ghost use Rattle.tree_values.specs.Shown.{plain_spelled, plain_value, plain_argument};
 
 use crate::nodes::join;
 use crate::places::read;
-use crate::trees::{Body, Branch, File, Operand, Optional, Params, Row};
+use crate::trees::{Body, Branch, File, Items, Operand, Optional, Params, Place, Row};
 use crate::value::{Argument, Spelled, Spelling, Value};
 use php_syntax::token::{Sign, TokenKind};
 use php_syntax::tree::Expr;
@@ -34,8 +35,8 @@ fn integer(number: i64) -> Operand
 
 impl<'a> Spelled<'a> {
     /// The expression.
-    pub(crate) fn whole(self, alloc: Global) -> Result<Operand, NoMemory>
-        ensures { IfOk result (λ o. plain.whole_of (plain_spelled self) ≡ Some (plain_expr o.tree)) }
+    pub fn whole(self, alloc: Global) -> Result<Operand, NoMemory>
+        ensures { IfOk result (λ o. plain.whole_of (plain_spelled self.entry) ≡ Some (plain_expr o.tree)) }
     {
         match self {
             Spelled::Digits(number) => Ok(integer(number)),
@@ -75,8 +76,8 @@ impl<'a> Spelled<'a> {
     }
 
     /// The expression as an argument of a call.
-    pub(crate) fn argument(self, alloc: Global) -> Result<Argument<'a>, NoMemory>
-        ensures { IfOk result (λ g. plain.argument_of (plain_spelled self) ≡ Some (plain_argument g)) }
+    pub fn argument(self, alloc: Global) -> Result<Argument<'a>, NoMemory>
+        ensures { IfOk result (λ g. plain.argument_of (plain_spelled self.entry) ≡ Some (plain_argument g)) }
     {
         match self {
             Spelled::Digits(number) => Ok(Argument::Given(Spelling::Digits, integer(number))),
@@ -96,10 +97,10 @@ impl<'a> Spelled<'a> {
 
 impl<'a> Value<'a> {
     /// The expression that this is, if it is one.
-    pub(crate) fn whole(self, alloc: Global) -> Result<Option<Operand>, NoMemory>
+    pub fn whole(self, alloc: Global) -> Result<Option<Operand>, NoMemory>
         ensures { IfOk result (λ found. MatchOption found
-            (plain.whole_of (plain_value self) ≡ None)
-            (λ o. plain.whole_of (plain_value self) ≡ Some (plain_expr o.tree))) }
+            (plain.whole_of (plain_value self.entry) ≡ None)
+            (λ o. plain.whole_of (plain_value self.entry) ≡ Some (plain_expr o.tree))) }
     {
         match self {
             Value::Expr(spelled) => Ok(Some(spelled.whole(alloc)?)),
@@ -111,10 +112,10 @@ impl<'a> Value<'a> {
     }
 
     /// The same for an operand, which no assignment is without brackets.
-    pub(crate) fn operand(self, alloc: Global) -> Result<Option<Operand>, NoMemory>
+    pub fn operand(self, alloc: Global) -> Result<Option<Operand>, NoMemory>
         ensures { IfOk result (λ found. MatchOption found
-            (plain.operand_of (plain_value self) ≡ None)
-            (λ o. plain.operand_of (plain_value self) ≡ Some (plain_expr o.tree))) }
+            (plain.operand_of (plain_value self.entry) ≡ None)
+            (λ o. plain.operand_of (plain_value self.entry) ≡ Some (plain_expr o.tree))) }
     {
         match self {
             Value::Expr(spelled) => {
@@ -131,10 +132,10 @@ impl<'a> Value<'a> {
     }
 
     /// The same for what stands before `?`, which no choice is without brackets.
-    pub(crate) fn subject(self, alloc: Global) -> Result<Option<Operand>, NoMemory>
+    pub fn subject(self, alloc: Global) -> Result<Option<Operand>, NoMemory>
         ensures { IfOk result (λ found. MatchOption found
-            (plain.subject_of (plain_value self) ≡ None)
-            (λ o. plain.subject_of (plain_value self) ≡ Some (plain_expr o.tree))) }
+            (plain.subject_of (plain_value self.entry) ≡ None)
+            (λ o. plain.subject_of (plain_value self.entry) ≡ Some (plain_expr o.tree))) }
     {
         match self {
             Value::Expr(spelled) => {
@@ -151,10 +152,10 @@ impl<'a> Value<'a> {
     }
 
     /// The argument of a call that this is, if it is one.
-    pub(crate) fn argument(self, alloc: Global) -> Result<Option<Argument<'a>>, NoMemory>
+    pub fn argument(self, alloc: Global) -> Result<Option<Argument<'a>>, NoMemory>
         ensures { IfOk result (λ found. MatchOption found
-            (plain.argument_of (plain_value self) ≡ None)
-            (λ g. plain.argument_of (plain_value self) ≡ Some (plain_argument g))) }
+            (plain.argument_of (plain_value self.entry) ≡ None)
+            (λ g. plain.argument_of (plain_value self.entry) ≡ Some (plain_argument g))) }
     {
         match self {
             Value::Expr(spelled) => Ok(Some(spelled.argument(alloc)?)),
@@ -170,10 +171,10 @@ impl<'a> Value<'a> {
     }
 
     /// The expressions that this is, if it is some.
-    pub(crate) fn exprs(self) -> Option<Row>
+    pub fn exprs(self) -> Option<Row>
         ensures { MatchOption result
-            (plain.exprs_of (plain_value self) ≡ None)
-            (λ x. plain.exprs_of (plain_value self) ≡ Some (exprs_of x.exprs.items)) }
+            (plain.exprs_of (plain_value self.entry) ≡ None)
+            (λ x. plain.exprs_of (plain_value self.entry) ≡ Some (exprs_of x.exprs.items)) }
     {
         match self {
             Value::Exprs(found) => Some(found),
@@ -185,10 +186,10 @@ impl<'a> Value<'a> {
     }
 
     /// The arguments that this is, if it is some.
-    pub(crate) fn arguments(self) -> Option<Vec<Argument<'a>>>
+    pub fn arguments(self) -> Option<Vec<Argument<'a>>>
         ensures { MatchOption result
-            (plain.arguments_of (plain_value self) ≡ None)
-            (λ x. plain.arguments_of (plain_value self) ≡ Some (map plain_argument x.items)) }
+            (plain.arguments_of (plain_value self.entry) ≡ None)
+            (λ x. plain.arguments_of (plain_value self.entry) ≡ Some (map plain_argument x.items)) }
     {
         match self {
             Value::Arguments(found) => Some(found),
@@ -200,10 +201,10 @@ impl<'a> Value<'a> {
     }
 
     /// The arms that this is, and what stands behind `else`.
-    pub(crate) fn branch(self) -> Option<Branch>
+    pub fn branch(self) -> Option<Branch>
         ensures { MatchOption result
-            (plain.branch_of (plain_value self) ≡ None)
-            (λ x. plain.branch_of (plain_value self) ≡ Some (arms_of (reverse x.arms.arms.items), stmts_of x.others.stmts.items)) }
+            (plain.branch_of (plain_value self.entry) ≡ None)
+            (λ x. plain.branch_of (plain_value self.entry) ≡ Some (arms_of (reverse x.arms.arms.items), stmts_of x.others.stmts.items)) }
     {
         match self {
             Value::Branch(found) => Some(found),
@@ -215,10 +216,10 @@ impl<'a> Value<'a> {
     }
 
     /// The parameters that this is, if it is some.
-    pub(crate) fn params(self) -> Option<Params>
+    pub fn params(self) -> Option<Params>
         ensures { MatchOption result
-            (plain.params_of (plain_value self) ≡ None)
-            (λ x. plain.params_of (plain_value self) ≡ Some (params_of_list x.params.items)) }
+            (plain.params_of (plain_value self.entry) ≡ None)
+            (λ x. plain.params_of (plain_value self.entry) ≡ Some (params_of_list x.params.items)) }
     {
         match self {
             Value::Params(found) => Some(found),
@@ -230,10 +231,10 @@ impl<'a> Value<'a> {
     }
 
     /// The file that this is, if it is one.
-    pub(crate) fn file(self) -> Option<File>
+    pub fn file(self) -> Option<File>
         ensures { MatchOption result
-            (plain.file_of (plain_value self) ≡ None)
-            (λ x. plain.file_of (plain_value self) ≡ Some (plain_file x.tree)) }
+            (plain.file_of (plain_value self.entry) ≡ None)
+            (λ x. plain.file_of (plain_value self.entry) ≡ Some (plain_file x.tree)) }
     {
         match self {
             Value::File(found) => Some(found),
@@ -245,10 +246,10 @@ impl<'a> Value<'a> {
     }
 
     /// The expression that may be left out, if this is one or none.
-    pub(crate) fn condition(self) -> Option<Optional>
+    pub fn condition(self) -> Option<Optional>
         ensures { MatchOption result
-            (plain.condition_of (plain_value self) ≡ None)
-            (λ x. plain.condition_of (plain_value self) ≡ Some (maybe_of x.tree)) }
+            (plain.condition_of (plain_value self.entry) ≡ None)
+            (λ x. plain.condition_of (plain_value self.entry) ≡ Some (maybe_of x.tree)) }
     {
         match self {
             Value::Exprs(row) => row.only(),
@@ -260,10 +261,10 @@ impl<'a> Value<'a> {
     }
 
     /// The statements that this is, if it is some: arms are an `if`.
-    pub(crate) fn stmts(self, alloc: Global) -> Result<Option<Body>, NoMemory>
+    pub fn stmts(self, alloc: Global) -> Result<Option<Body>, NoMemory>
         ensures { IfOk result (λ found. MatchOption found
-            (plain.stmts_of (plain_value self) ≡ None)
-            (λ b. plain.stmts_of (plain_value self) ≡ Some (stmts_of b.stmts.items))) }
+            (plain.stmts_of (plain_value self.entry) ≡ None)
+            (λ b. plain.stmts_of (plain_value self.entry) ≡ Some (stmts_of b.stmts.items))) }
     {
         match self {
             Value::Stmts(body) => Ok(Some(body)),
@@ -275,10 +276,10 @@ impl<'a> Value<'a> {
     }
 
     /// The variable that this is, if it is one without keys.
-    pub(crate) fn variable(self) -> Option<&'a Bytes>
+    pub fn variable(self) -> Option<&'a Bytes>
         ensures { MatchOption result
-            (plain.variable_of (plain_value self) ≡ None)
-            (λ x. plain.variable_of (plain_value self) ≡ Some x.now) }
+            (plain.variable_of (plain_value self.entry) ≡ None)
+            (λ x. plain.variable_of (plain_value self.entry) ≡ Some x.now) }
     {
         match self {
             Value::Place(place) => place.bare(),
@@ -294,7 +295,7 @@ impl<'a> Value<'a> {
     }
 
     /// The name that this token is, if it is one.
-    pub(crate) fn name(&self) -> Option<&'a Bytes>
+    pub fn name(&self) -> Option<&'a Bytes>
         ensures { MatchOption result
             (plain.name_of_token (plain_value self.now) ≡ None)
             (λ x. plain.name_of_token (plain_value self.now) ≡ Some x.now) }
@@ -313,7 +314,7 @@ impl<'a> Value<'a> {
     }
 
     /// The sign that this token is, if it is one.
-    pub(crate) fn sign(&self) -> Option<Sign>
+    pub fn sign(&self) -> Option<Sign>
         ensures { result ≡ plain.sign_of (plain_value self.now) }
     {
         match self {
@@ -326,6 +327,37 @@ impl<'a> Value<'a> {
             Value::Alone(_) | Value::Exprs(_) | Value::Arguments(_) | Value::Items(..) => None,
             Value::Stmts(_) | Value::Branch(_) | Value::Params(_) | Value::Function(_) => None,
             Value::File(_) => None,
+        }
+    }
+
+    /// The variable with keys that this is, if it is one.
+    pub fn place(self) -> Option<Place<'a>>
+        ensures { MatchOption result
+            ((e : _) (f : _) → (actions.assigned (plain_value self.entry) e ≡ None) × (actions.updated (plain_value self.entry) f e ≡ None))
+            (λ p. plain_value self.entry ≡ plain.place p.name.now (path_of p.keys.items)) }
+    {
+        match self {
+            Value::Place(place) => Some(place),
+            Value::Leaf(_) | Value::Absent | Value::Quotes | Value::Alone(_) => None,
+            Value::Exprs(_) | Value::Arguments(_) | Value::Items(..) => None,
+            Value::Stmts(_) | Value::Branch(_) | Value::Params(_) => None,
+            Value::Function(_) | Value::File(_) | Value::Expr(_) => None,
+        }
+    }
+
+    /// The items that this is, and whether the last is left out.
+    pub fn items(self) -> Option<(Items, bool)>
+        ensures { MatchOption result
+            ((w : _) → (actions.next_items (plain_value self.entry) w ≡ None) × (actions.next_items w (plain_value self.entry) ≡ None)
+            × (actions.array_of (plain_value self.entry) ≡ None))
+            (λ pair. plain_value self.entry ≡ plain.items (items_of pair.0.items.items) pair.1) }
+    {
+        match self {
+            Value::Items(items, hole) => Some((items, hole)),
+            Value::Leaf(_) | Value::Absent | Value::Quotes | Value::Alone(_) => None,
+            Value::Exprs(_) | Value::Arguments(_) | Value::Place(_) => None,
+            Value::Stmts(_) | Value::Branch(_) | Value::Params(_) => None,
+            Value::Function(_) | Value::File(_) | Value::Expr(_) => None,
         }
     }
 }

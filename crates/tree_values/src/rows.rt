@@ -1,6 +1,6 @@
 //! Expressions, items and arguments in a row.
 
-ghost use Rattle.std.specs.Prelude.{◌≡◌, ◌×◌, ◌<◌, ◌+◌, max, ◌++◌, ◌∷◌, [], Some, None, MatchOption, IfOk, map};
+ghost use Rattle.std.specs.Prelude.{◌≡◌, ◌<◌, ◌+◌, max, ◌++◌, ◌∷◌, [], Some, None, MatchOption, IfOk, map};
 ghost use Rattle.php_syntax.specs.Trees.{plain_expr, maybe_of, exprs_of, items_of, no_expr, some_expr, no_exprs, more_exprs, no_items, more_items};
 ghost use Rattle.php_syntax.specs.Height.{height};
 ghost use Rattle.text_base.specs.declared.limits.TheConstants.{HEIGHT_LIMIT};
@@ -16,7 +16,7 @@ use text_base::limits::HEIGHT_LIMIT;
 impl Operand {
     /// This expression, which is not left out.
     #[tactic(auto, unfolding(php_syntax::specs::Height::height, script_grammar::specs::Rules::expr_fits))]
-    pub(crate) fn optional(self) -> Optional
+    pub fn optional(self) -> Optional
         ensures { maybe_of result.tree ≡ some_expr (plain_expr self.tree) }
     {
         Optional {
@@ -29,7 +29,7 @@ impl Operand {
 impl Optional {
     /// No expression.
     #[tactic(auto, unfolding(php_syntax::specs::Height::height, script_grammar::specs::Rules::expr_fits))]
-    pub(crate) fn none() -> Optional
+    pub fn none() -> Optional
         ensures { maybe_of result.tree ≡ no_expr }
     {
         Optional {
@@ -42,7 +42,7 @@ impl Optional {
 impl Row {
     /// No expressions. Takes no memory.
     #[tactic(auto, unfolding(php_syntax::specs::Height::height, script_grammar::specs::Rules::expr_fits))]
-    pub(crate) fn empty(alloc: Global) -> Row
+    pub fn empty(alloc: Global) -> Row
         ensures { exprs_of result.exprs.items ≡ no_exprs }
     {
         Row {
@@ -53,7 +53,7 @@ impl Row {
 
     /// These expressions and one more.
     #[tactic(auto, using(crate::proofs::RowLemmas::rows))]
-    pub(crate) fn with(self, operand: Operand) -> Result<Row, NoMemory>
+    pub fn with(self, operand: Operand) -> Result<Row, NoMemory>
         ensures { IfOk result (λ row. exprs_of row.exprs.items
             ≡ exprs_and (exprs_of self.exprs.items) (more_exprs (plain_expr operand.tree) no_exprs)) }
     {
@@ -65,7 +65,7 @@ impl Row {
 
     /// The expression that this is, if it is one alone, or none.
     #[tactic(auto, using(crate::proofs::RowLemmas::rows))]
-    pub(crate) fn only(self) -> Option<Optional>
+    pub fn only(self) -> Option<Optional>
         ensures { MatchOption result
             (plain.condition_of (plain.exprs (exprs_of self.exprs.items)) ≡ None)
             (λ x. plain.condition_of (plain.exprs (exprs_of self.exprs.items)) ≡ Some (maybe_of x.tree)) }
@@ -83,11 +83,7 @@ impl Row {
 impl Chain {
     /// A chain of two operands, unless it is over 200 high.
     #[tactic(auto, using(crate::proofs::RowLemmas::rows))]
-    pub(crate) fn new(
-        alloc: Global,
-        left: Operand,
-        right: Operand,
-    ) -> Result<Option<Chain>, NoMemory>
+    pub fn new(alloc: Global, left: Operand, right: Operand) -> Result<Option<Chain>, NoMemory>
         ensures { IfOk result (λ found. MatchOption found
             (HEIGHT_LIMIT < 1 + max (height (plain_expr left.tree)) (height (plain_expr right.tree)))
             (λ c. exprs_of c.exprs.items ≡ more_exprs (plain_expr left.tree) (more_exprs (plain_expr right.tree) no_exprs))) }
@@ -104,7 +100,7 @@ impl Chain {
 
     /// This chain and one more operand, unless it is over 200 high.
     #[tactic(auto, using(crate::proofs::RowLemmas::rows))]
-    pub(crate) fn with(self, operand: Operand) -> Result<Option<Chain>, NoMemory>
+    pub fn with(self, operand: Operand) -> Result<Option<Chain>, NoMemory>
         ensures { IfOk result (λ found. MatchOption found
             (HEIGHT_LIMIT < 1 + height (plain_expr operand.tree))
             (λ c. exprs_of c.exprs.items ≡ exprs_and (exprs_of self.exprs.items) (more_exprs (plain_expr operand.tree) no_exprs))) }
@@ -122,7 +118,7 @@ impl Chain {
 impl Items {
     /// No items. Takes no memory.
     #[tactic(auto, unfolding(php_syntax::specs::Height::height, script_grammar::specs::Rules::expr_fits))]
-    pub(crate) fn empty(alloc: Global) -> Items
+    pub fn empty(alloc: Global) -> Items
         ensures { items_of result.items.items ≡ no_items }
     {
         Items {
@@ -133,7 +129,7 @@ impl Items {
 
     /// One item, with its key, if it has one.
     #[tactic(auto, using(crate::proofs::RowLemmas::rows))]
-    pub(crate) fn one(alloc: Global, key: Optional, value: Operand) -> Result<Items, NoMemory>
+    pub fn one(alloc: Global, key: Optional, value: Operand) -> Result<Items, NoMemory>
         ensures { IfOk result (λ is. items_of is.items.items
             ≡ more_items (maybe_of key.tree) (plain_expr value.tree) no_items) }
     {
@@ -145,7 +141,7 @@ impl Items {
 
     /// These items, and then others, of which there is one at most.
     #[tactic(auto, using(crate::proofs::RowLemmas::rows))]
-    pub(crate) fn and(self, others: Items) -> Result<Items, NoMemory>
+    pub fn and(self, others: Items) -> Result<Items, NoMemory>
         ensures { IfOk result (λ is. items_of is.items.items
             ≡ items_and (items_of self.items.items) (items_of others.items.items)) }
     {
