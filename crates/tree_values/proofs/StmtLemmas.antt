@@ -52,7 +52,7 @@ and_swap true false true d = refl
 and_swap true false false d = refl
 and_swap true true c d = refl
 
-joined : (a b c d e f : Bool) → ((suits a e && suits b f) && (suits c e && suits d f)) ≡ (suits (a || c) e && suits (b || d) f)
+pub joined : (a b c d e f : Bool) → ((suits a e && suits b f) && (suits c e && suits d f)) ≡ (suits (a || c) e && suits (b || d) f)
 joined a b c d e f = and_swap (suits a e) (suits b f) (suits c e) (suits d f) ∙ ap (λ (x : Bool). x && (suits b f && suits d f)) (suits_or a c e) ∙ ap (λ (x : Bool). suits (a || c) e && x) (suits_or b d f)
 
 and_moved : (a b c : Bool) → (a && (b && c)) ≡ ((a && b) && c)
@@ -147,7 +147,7 @@ continue_fits true false = refl
 continue_fits false true = refl
 continue_fits false false = refl
 
-if_true : (a b : Bool) → a ≡ true → (a && b) ≡ b
+pub if_true : (a b : Bool) → a ≡ true → (a && b) ≡ b
 if_true a b e = ap (λ (x : Bool). x && b) e
 
 pub while_fits : (e : PlainExpr) (ss : PlainStmts) (nl nf : Bool) → expr_fits e ≡ true → AllFit ss nl nf → Fits (while_stmt e ss) false nf
