@@ -16,7 +16,6 @@ use tree_values::trees::{Arms, Body, Branch, Operand};
 use tree_values::value::{Made, Value};
 
 /// A condition and its statements before further arms, which may go on.
-#[tactic(auto, using(crate::proofs::ArmLemmas::made))]
 pub(crate) fn arm<'a>(
     alloc: Global,
     condition: Value<'a>,
@@ -42,7 +41,6 @@ pub(crate) fn arm<'a>(
 }
 
 /// The same where no arm can follow.
-#[tactic(auto, using(crate::proofs::ArmLemmas::made))]
 pub(crate) fn whole_arm<'a>(
     alloc: Global,
     condition: Value<'a>,
@@ -68,7 +66,6 @@ pub(crate) fn whole_arm<'a>(
 }
 
 /// What stands behind `else` in the form with colons.
-#[tactic(auto, using(crate::proofs::ArmLemmas::made))]
 pub(crate) fn others<'a>(alloc: Global, body: Value<'a>) -> Result<Made<'a>, NoMemory>
     ensures { IfOk result (λ made. Makes made
         (option_map (plain.branch no_arms) (plain.stmts_of (plain_value body.entry)))) }
@@ -83,7 +80,6 @@ pub(crate) fn others<'a>(alloc: Global, body: Value<'a>) -> Result<Made<'a>, NoM
 }
 
 /// What stands behind `else`: an `if` is one more arm.
-#[tactic(auto, using(crate::proofs::ArmLemmas::made))]
 pub(crate) fn other<'a>(alloc: Global, body: Value<'a>) -> Result<Made<'a>, NoMemory>
     ensures { IfOk result (λ made. Makes made (other_of (plain_value body.entry))) }
 {

@@ -23,7 +23,7 @@ use tree_values::trees::Chain;
 use tree_values::value::{Built, Made, Spelled, Value};
 
 /// What was built, as any expression.
-#[tactic(auto, using(crate::proofs::BuiltLemmas::built))]
+#[tactic(auto, using(crate::proofs::BuiltLemmas::high_expr, crate::proofs::BuiltLemmas::broken_expr))]
 pub(crate) fn usual<'a>(built: Built) -> Made<'a>
     ensures { (e : PlainExpr) → Builds built e → Makes result (Some (plain.expr plain.usual e)) }
 {
@@ -35,7 +35,7 @@ pub(crate) fn usual<'a>(built: Built) -> Made<'a>
 }
 
 /// The same as an assignment.
-#[tactic(auto, using(crate::proofs::BuiltLemmas::built))]
+#[tactic(auto, using(crate::proofs::BuiltLemmas::high_expr, crate::proofs::BuiltLemmas::broken_expr))]
 pub(crate) fn loose<'a>(built: Built) -> Made<'a>
     ensures { (e : PlainExpr) → Builds built e → Makes result (Some (plain.expr plain.loose e)) }
 {
@@ -47,7 +47,7 @@ pub(crate) fn loose<'a>(built: Built) -> Made<'a>
 }
 
 /// The same as a choice.
-#[tactic(auto, using(crate::proofs::BuiltLemmas::built))]
+#[tactic(auto, using(crate::proofs::BuiltLemmas::high_expr, crate::proofs::BuiltLemmas::broken_expr))]
 fn chosen<'a>(built: Built) -> Made<'a>
     ensures { (e : PlainExpr) → Builds built e → Makes result (Some (plain.expr plain.choice e)) }
 {
@@ -59,7 +59,7 @@ fn chosen<'a>(built: Built) -> Made<'a>
 }
 
 /// The same as a literal.
-#[tactic(auto, using(crate::proofs::BuiltLemmas::built))]
+#[tactic(auto, using(crate::proofs::BuiltLemmas::high_expr, crate::proofs::BuiltLemmas::broken_expr))]
 fn literal<'a>(built: Built) -> Made<'a>
     ensures { (e : PlainExpr) → Builds built e → Makes result (Some (plain.expr plain.literal e)) }
 {
@@ -116,7 +116,7 @@ fn operated<'a>(
 }
 
 // A chain, unless it is over 200 high.
-#[tactic(auto, using(crate::proofs::BuiltLemmas::built))]
+#[tactic(auto, using(crate::proofs::BuiltLemmas::high_expr, crate::proofs::BuiltLemmas::broken_expr))]
 fn chained<'a>(chain: Option<Chain>) -> Made<'a>
     ensures { MatchOption chain
         ((e : PlainExpr) → (expr_fits e ≡ true) → (HEIGHT_LIMIT < height e) → Makes result (Some (plain.expr plain.chain e)))

@@ -100,7 +100,6 @@ pub(crate) fn function<'a>(
 }
 
 // A function of these parts.
-#[tactic(auto, using(crate::proofs::ParamLemmas::functions))]
 fn function_made<'a>(name: Bytes, params: Params, body: Body) -> Made<'a>
     ensures { Makes result (Some (actions.function_of name (params_of_list params.params.items) (stmts_of body.stmts.items))) }
 {
@@ -123,7 +122,6 @@ fn function_made<'a>(name: Bytes, params: Params, body: Body) -> Made<'a>
 }
 
 /// A file without statements and functions.
-#[tactic(auto, using(crate::proofs::ParamLemmas::functions))]
 pub(crate) fn empty_file(alloc: Global) -> File
     ensures { plain_file result.tree ≡ record { body_of = no_stmts; functions_of = [] } }
 {
@@ -135,7 +133,6 @@ pub(crate) fn empty_file(alloc: Global) -> File
 }
 
 /// Statements of a file outside of functions, behind those before.
-#[tactic(auto, using(crate::proofs::ParamLemmas::files))]
 fn part_made<'a>(file: File, body: Body) -> Result<Made<'a>, NoMemory>
     ensures { IfOk result (λ made. Makes made (Some (part_and (plain_file file.tree) (stmts_of body.stmts.items)))) }
 {
@@ -181,7 +178,6 @@ pub(crate) fn next_part<'a>(
 }
 
 // A function of a file, behind those before.
-#[tactic(auto, using(crate::proofs::ParamLemmas::files))]
 fn function_added<'a>(file: File, function: Function) -> Result<Made<'a>, NoMemory>
     ensures { IfOk result (λ made. Makes made
         (function_and (Some (plain_file file.tree)) (plain.function (plain_function function.tree)))) }

@@ -19,7 +19,7 @@ use tree_values::trees::{Body, Branch, Included, Operand, Optional, Row};
 use tree_values::value::{Made, Value};
 
 /// One statement, whose highest part is so high, unless it is over 200 high.
-#[tactic(auto, using(crate::proofs::StmtLemmas::stmts))]
+#[tactic(auto, using(tree_values::proofs::StmtLemmas::one_stmt_high, tree_values::proofs::StmtLemmas::one_stmt_fits, tree_values::proofs::StmtLemmas::high_stmt))]
 pub(crate) fn statement<'a>(
     alloc: Global,
     stmt: Stmt,
@@ -45,7 +45,7 @@ pub(crate) fn statement<'a>(
 }
 
 /// Text outside of PHP.
-#[tactic(auto, using(php_syntax::proofs::Views::views, crate::proofs::StmtLemmas::nodes))]
+#[tactic(auto, using(php_syntax::proofs::Views::views, tree_values::proofs::StmtLemmas::inline_high, tree_values::proofs::StmtLemmas::inline_fits))]
 pub(crate) fn inline<'a>(alloc: Global, text: &Bytes) -> Result<Made<'a>, NoMemory>
     ensures { IfOk result (λ made. Makes made (Some (one_stmt (inline_stmt text.now)))) }
 {
@@ -54,7 +54,7 @@ pub(crate) fn inline<'a>(alloc: Global, text: &Bytes) -> Result<Made<'a>, NoMemo
 }
 
 /// An `echo`.
-#[tactic(auto, using(php_syntax::proofs::Views::views, crate::proofs::StmtLemmas::nodes))]
+#[tactic(auto, using(php_syntax::proofs::Views::views, tree_values::proofs::StmtLemmas::echo_high, tree_values::proofs::StmtLemmas::echo_fits))]
 pub(crate) fn echo<'a>(alloc: Global, row: Row) -> Result<Made<'a>, NoMemory>
     ensures { IfOk result (λ made. Makes made (Some (one_stmt (echo_stmt (exprs_of row.exprs.items))))) }
 {
@@ -63,7 +63,7 @@ pub(crate) fn echo<'a>(alloc: Global, row: Row) -> Result<Made<'a>, NoMemory>
 }
 
 /// An expression as a statement.
-#[tactic(auto, using(php_syntax::proofs::Views::views, crate::proofs::StmtLemmas::nodes))]
+#[tactic(auto, using(php_syntax::proofs::Views::views, tree_values::proofs::StmtLemmas::run_high, tree_values::proofs::StmtLemmas::run_fits))]
 pub(crate) fn run<'a>(alloc: Global, operand: Operand) -> Result<Made<'a>, NoMemory>
     ensures { IfOk result (λ made. Makes made (Some (one_stmt (run_stmt (plain_expr operand.tree))))) }
 {
@@ -72,7 +72,7 @@ pub(crate) fn run<'a>(alloc: Global, operand: Operand) -> Result<Made<'a>, NoMem
 }
 
 /// An include.
-#[tactic(auto, using(php_syntax::proofs::Views::views, crate::proofs::StmtLemmas::nodes))]
+#[tactic(auto, using(php_syntax::proofs::Views::views, tree_values::proofs::StmtLemmas::include_high, tree_values::proofs::StmtLemmas::include_fits))]
 pub(crate) fn include<'a>(alloc: Global, included: Included) -> Result<Made<'a>, NoMemory>
     ensures { IfOk result (λ made. Makes made (Some (one_stmt (include_stmt included.entry.path.now)))) }
 {
@@ -81,7 +81,7 @@ pub(crate) fn include<'a>(alloc: Global, included: Included) -> Result<Made<'a>,
 }
 
 /// The end of a run.
-#[tactic(auto, using(php_syntax::proofs::Views::views, crate::proofs::StmtLemmas::nodes))]
+#[tactic(auto, using(php_syntax::proofs::Views::views, tree_values::proofs::StmtLemmas::quit_high, tree_values::proofs::StmtLemmas::quit_fits))]
 pub(crate) fn quit<'a>(alloc: Global, printed: Optional) -> Result<Made<'a>, NoMemory>
     ensures { IfOk result (λ made. Makes made (Some (one_stmt (quit_stmt (maybe_of printed.tree))))) }
 {
@@ -90,7 +90,7 @@ pub(crate) fn quit<'a>(alloc: Global, printed: Optional) -> Result<Made<'a>, NoM
 }
 
 /// A `return`.
-#[tactic(auto, using(php_syntax::proofs::Views::views, crate::proofs::StmtLemmas::nodes))]
+#[tactic(auto, using(php_syntax::proofs::Views::views, tree_values::proofs::StmtLemmas::return_high, tree_values::proofs::StmtLemmas::return_fits))]
 pub(crate) fn give_back<'a>(alloc: Global, value: Optional) -> Result<Made<'a>, NoMemory>
     ensures { IfOk result (λ made. Makes made (Some (one_stmt (return_stmt (maybe_of value.tree))))) }
 {
@@ -99,7 +99,7 @@ pub(crate) fn give_back<'a>(alloc: Global, value: Optional) -> Result<Made<'a>, 
 }
 
 /// A `break`.
-#[tactic(auto, using(php_syntax::proofs::Views::views, crate::proofs::StmtLemmas::nodes))]
+#[tactic(auto, using(php_syntax::proofs::Views::views, tree_values::proofs::StmtLemmas::break_high, tree_values::proofs::StmtLemmas::break_fits))]
 pub(crate) fn leave<'a>(alloc: Global) -> Result<Made<'a>, NoMemory>
     ensures { IfOk result (λ made. Makes made (Some (one_stmt break_stmt))) }
 {
@@ -107,7 +107,7 @@ pub(crate) fn leave<'a>(alloc: Global) -> Result<Made<'a>, NoMemory>
 }
 
 /// A `continue`.
-#[tactic(auto, using(php_syntax::proofs::Views::views, crate::proofs::StmtLemmas::nodes))]
+#[tactic(auto, using(php_syntax::proofs::Views::views, tree_values::proofs::StmtLemmas::continue_high, tree_values::proofs::StmtLemmas::continue_fits))]
 pub(crate) fn turn<'a>(alloc: Global) -> Result<Made<'a>, NoMemory>
     ensures { IfOk result (λ made. Makes made (Some (one_stmt continue_stmt))) }
 {
@@ -115,7 +115,7 @@ pub(crate) fn turn<'a>(alloc: Global) -> Result<Made<'a>, NoMemory>
 }
 
 /// A `while`.
-#[tactic(auto, using(php_syntax::proofs::Views::views, crate::proofs::StmtLemmas::nodes))]
+#[tactic(auto, using(php_syntax::proofs::Views::views, tree_values::proofs::StmtLemmas::while_high, tree_values::proofs::StmtLemmas::while_fits))]
 pub(crate) fn while_loop<'a>(
     alloc: Global,
     condition: Operand,
@@ -131,7 +131,7 @@ pub(crate) fn while_loop<'a>(
 }
 
 /// A `do`.
-#[tactic(auto, using(php_syntax::proofs::Views::views, crate::proofs::StmtLemmas::nodes))]
+#[tactic(auto, using(php_syntax::proofs::Views::views, tree_values::proofs::StmtLemmas::do_high, tree_values::proofs::StmtLemmas::do_fits))]
 pub(crate) fn do_loop<'a>(
     alloc: Global,
     body: Body,
@@ -147,7 +147,7 @@ pub(crate) fn do_loop<'a>(
 }
 
 /// A `for`.
-#[tactic(auto, using(php_syntax::proofs::Views::views, crate::proofs::StmtLemmas::nodes))]
+#[tactic(auto, using(php_syntax::proofs::Views::views, tree_values::proofs::StmtLemmas::for_high, tree_values::proofs::StmtLemmas::for_fits))]
 pub(crate) fn for_loop<'a>(
     alloc: Global,
     begin: Row,
@@ -176,7 +176,7 @@ fn is_maybe_writable(name: &Option<Bytes>) -> bool
 }
 
 /// A `foreach` over an array by the variable of its keys, if there is one, and that of its values.
-#[tactic(auto, using(php_syntax::proofs::Views::views, crate::proofs::StmtLemmas::nodes))]
+#[tactic(auto, using(php_syntax::proofs::Views::views, tree_values::proofs::StmtLemmas::each_high, tree_values::proofs::StmtLemmas::each_fits, tree_values::proofs::StmtLemmas::unwritable_key, tree_values::proofs::StmtLemmas::unwritable_value))]
 pub(crate) fn each_loop<'a>(
     alloc: Global,
     array: Operand,

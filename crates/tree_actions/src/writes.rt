@@ -31,7 +31,7 @@ pub(crate) fn variable<'a>(alloc: Global, token: Value<'a>) -> Made<'a>
 }
 
 // A variable with one more key.
-#[tactic(auto, using(crate::proofs::BuiltLemmas::places))]
+#[tactic(auto, using(crate::proofs::BuiltLemmas::high_place))]
 fn with_key<'a>(place: Place<'a>, key: Optional) -> Result<Made<'a>, NoMemory>
     ensures { IfOk result (λ made. Makes made (Some (plain.place place.entry.name.now
         (plain.path_and (path_of place.entry.keys.items) (more_keys (maybe_of key.tree) no_keys))))) }

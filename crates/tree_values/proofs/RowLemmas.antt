@@ -39,6 +39,10 @@ unfolding height
 exprs_push_high no_exprs e = omega arith
 exprs_push_high (more_exprs f es) e = ap (max (height f)) (exprs_push_high es e) ∙ max_three (height f) (exprs_height es) (height e)
 
+pub one_expr_fits : (e : PlainExpr) → exprs_fit (more_exprs e no_exprs) ≡ true → expr_fits e ≡ true
+unfolding expr_fits
+one_expr_fits e h = first_of h
+
 pub two_exprs_fit : (e f : PlainExpr) → expr_fits e ≡ true → expr_fits f ≡ true → exprs_fit (more_exprs e (more_exprs f no_exprs)) ≡ true
 unfolding expr_fits
 two_exprs_fit e f h i = both h (both i refl)
@@ -72,5 +76,3 @@ pub items_append_fit : (is js : PlainItems) → items_fit is ≡ true → items_
 unfolding expr_fits
 items_append_fit no_items js h i = i
 items_append_fit (more_items k e is) js h i = both (first_of h) (both (first_of (second_of h)) (items_append_fit is js (second_of (second_of h)) i))
-
-pub ruleset rows = (exprs_push, no_exprs_high, one_expr_high, two_exprs_high, exprs_push_high, two_exprs_fit, exprs_push_fit, one_item_high, one_item_fits, items_append, items_append_high, items_append_fit)

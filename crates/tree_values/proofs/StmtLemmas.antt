@@ -250,33 +250,6 @@ pub if_high : (arms : PlainArms) (ss : PlainStmts) → stmt_height (if_stmt arms
 unfolding stmt_height
 if_high arms ss = refl
 
-pub ruleset nodes = (
-  inline_fits,
-  echo_fits,
-  run_fits,
-  include_fits,
-  quit_fits,
-  return_fits,
-  break_fits,
-  continue_fits,
-  while_fits,
-  do_fits,
-  for_fits,
-  each_fits,
-  unwritable_key,
-  unwritable_value,
-  inline_high,
-  echo_high,
-  run_high,
-  include_high,
-  quit_high,
-  return_high,
-  break_high,
-  continue_high,
-  while_high,
-  do_high,
-  for_high,
-  each_high,
-)
+pub ruleset append = (stmts_append, stmts_append_high, stmts_append_fit)
 
-pub ruleset stmts = (stmts_append, no_stmts_high, one_stmt_high, stmts_append_high, no_stmts_fit, one_stmt_fits, stmts_append_fit, high_stmt, if_fits, if_high)
+pub ruleset branching = (one_stmt_high, one_stmt_fits, if_high, if_fits)

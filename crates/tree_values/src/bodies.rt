@@ -14,7 +14,7 @@ use text_base::limits::HEIGHT_LIMIT;
 
 impl Body {
     /// No statements. Takes no memory.
-    #[tactic(auto, using(crate::proofs::StmtLemmas::stmts))]
+    #[tactic(auto, using(crate::proofs::StmtLemmas::no_stmts_high, crate::proofs::StmtLemmas::no_stmts_fit))]
     pub fn empty(alloc: Global) -> Body
         ensures { stmts_of result.stmts.items ≡ no_stmts }
     {
@@ -27,7 +27,7 @@ impl Body {
     }
 
     /// These statements, and then others.
-    #[tactic(auto, using(crate::proofs::StmtLemmas::stmts))]
+    #[tactic(auto, using(crate::proofs::StmtLemmas::append))]
     pub fn and(self, others: Body) -> Result<Body, NoMemory>
         ensures { IfOk result (λ b. stmts_of b.stmts.items
             ≡ stmts_and (stmts_of self.stmts.items) (stmts_of others.stmts.items)) }
@@ -49,7 +49,7 @@ impl Body {
 
 impl Branch {
     /// The `if` of these arms.
-    #[tactic(auto, using(php_syntax::proofs::Views::views, crate::proofs::StmtLemmas::stmts))]
+    #[tactic(auto, using(php_syntax::proofs::Views::views, crate::proofs::StmtLemmas::branching))]
     pub fn into_body(self, alloc: Global) -> Result<Body, NoMemory>
         ensures { IfOk result (λ b. stmts_of b.stmts.items
             ≡ more_stmts (if_stmt (arms_of (reverse self.arms.arms.items)) (stmts_of self.others.stmts.items)) no_stmts) }
@@ -72,7 +72,7 @@ impl Branch {
 
 impl Branch {
     /// No arms, and what stands behind `else`, unless the `if` is over 200 high.
-    #[tactic(auto, using(crate::proofs::ArmLemmas::arms))]
+    #[tactic(auto, using(crate::proofs::ArmLemmas::no_arms_high, crate::proofs::ArmLemmas::no_arms_fit))]
     pub fn only(alloc: Global, others: Body) -> Option<Branch>
         ensures { MatchOption result
             (HEIGHT_LIMIT < 1 + highs.stmts_height (stmts_of others.stmts.items))

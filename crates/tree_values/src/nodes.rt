@@ -69,7 +69,7 @@ fn prefix_tree(alloc: Global, prefix: Prefix, operand: Expr) -> Result<Expr, NoM
 }
 
 /// An operator before an operand.
-#[tactic(auto, using(php_syntax::proofs::Views::views, crate::proofs::NodeLemmas::nodes))]
+#[tactic(auto, using(crate::proofs::NodeLemmas::prefix_high, crate::proofs::NodeLemmas::prefix_fits))]
 pub fn prefix(alloc: Global, prefix: Prefix, operand: Operand) -> Result<Built, NoMemory>
     ensures { IfOk result (λ built. Builds built (tree.prefix_tree prefix (plain_expr operand.tree))) }
 {
@@ -123,7 +123,7 @@ fn operator_tree(
 }
 
 /// An operator between two operands.
-#[tactic(auto, using(php_syntax::proofs::Views::views, crate::proofs::NodeLemmas::nodes))]
+#[tactic(auto, using(crate::proofs::NodeLemmas::operator_high, crate::proofs::NodeLemmas::operator_fits))]
 pub fn operation(
     alloc: Global,
     operator: Operator,
@@ -139,7 +139,7 @@ pub fn operation(
 }
 
 /// `??` between two operands.
-#[tactic(auto, using(php_syntax::proofs::Views::views, crate::proofs::NodeLemmas::nodes))]
+#[tactic(auto, using(php_syntax::proofs::Views::views, crate::proofs::NodeLemmas::coalesce_high, crate::proofs::NodeLemmas::coalesce_fits))]
 pub fn coalesce(alloc: Global, left: Operand, right: Operand) -> Result<Built, NoMemory>
     ensures { IfOk result (λ built.
         Builds built (coalesce_expr (plain_expr left.tree) (plain_expr right.tree))) }
@@ -150,7 +150,7 @@ pub fn coalesce(alloc: Global, left: Operand, right: Operand) -> Result<Built, N
 }
 
 /// A member of the first by the second.
-#[tactic(auto, using(php_syntax::proofs::Views::views, crate::proofs::NodeLemmas::nodes))]
+#[tactic(auto, using(php_syntax::proofs::Views::views, crate::proofs::NodeLemmas::member_high, crate::proofs::NodeLemmas::member_fits))]
 pub fn member(alloc: Global, array: Operand, key: Operand) -> Result<Built, NoMemory>
     ensures { IfOk result (λ built.
         Builds built (member_expr (plain_expr array.tree) (plain_expr key.tree))) }
@@ -161,7 +161,7 @@ pub fn member(alloc: Global, array: Operand, key: Operand) -> Result<Built, NoMe
 }
 
 /// `?:` between two operands.
-#[tactic(auto, using(php_syntax::proofs::Views::views, crate::proofs::NodeLemmas::nodes))]
+#[tactic(auto, using(php_syntax::proofs::Views::views, crate::proofs::NodeLemmas::short_choice_high, crate::proofs::NodeLemmas::short_choice_fits))]
 pub fn short_choice(alloc: Global, left: Operand, right: Operand) -> Result<Built, NoMemory>
     ensures { IfOk result (λ built.
         Builds built (choice_expr (plain_expr left.tree) no_expr (plain_expr right.tree))) }
@@ -172,7 +172,7 @@ pub fn short_choice(alloc: Global, left: Operand, right: Operand) -> Result<Buil
 }
 
 /// `?` and `:` between three operands.
-#[tactic(auto, using(php_syntax::proofs::Views::views, crate::proofs::NodeLemmas::nodes))]
+#[tactic(auto, using(php_syntax::proofs::Views::views, crate::proofs::NodeLemmas::choice_high, crate::proofs::NodeLemmas::choice_fits))]
 pub fn choice(
     alloc: Global,
     left: Operand,
@@ -189,7 +189,7 @@ pub fn choice(
 }
 
 /// A chain of `.` as an expression.
-#[tactic(auto, using(php_syntax::proofs::Views::views, crate::proofs::NodeLemmas::nodes))]
+#[tactic(auto, using(php_syntax::proofs::Views::views, crate::proofs::NodeLemmas::join_high, crate::proofs::NodeLemmas::join_fits))]
 pub fn join(chain: Chain) -> Operand
     ensures { plain_expr result.tree ≡ join_expr (exprs_of chain.exprs.items) }
 {
@@ -213,7 +213,7 @@ fn are_places(exprs: &[Expr]) -> bool
 }
 
 /// `isset` of operands.
-#[tactic(auto, using(php_syntax::proofs::Views::views, crate::proofs::NodeLemmas::nodes))]
+#[tactic(auto, using(php_syntax::proofs::Views::views, crate::proofs::NodeLemmas::isset_high, crate::proofs::NodeLemmas::isset_fits, crate::proofs::NodeLemmas::isset_broken))]
 pub fn isset(row: Row) -> Built
     ensures { Builds result (isset_expr (exprs_of row.exprs.items)) }
 {
@@ -225,7 +225,7 @@ pub fn isset(row: Row) -> Built
 }
 
 /// `empty` of an operand.
-#[tactic(auto, using(php_syntax::proofs::Views::views, crate::proofs::NodeLemmas::nodes))]
+#[tactic(auto, using(php_syntax::proofs::Views::views, crate::proofs::NodeLemmas::empty_high, crate::proofs::NodeLemmas::empty_fits, crate::proofs::NodeLemmas::empty_broken))]
 pub fn empty(alloc: Global, operand: Operand) -> Result<Built, NoMemory>
     ensures { IfOk result (λ built. Builds built (empty_expr (plain_expr operand.tree))) }
 {
@@ -237,7 +237,7 @@ pub fn empty(alloc: Global, operand: Operand) -> Result<Built, NoMemory>
 }
 
 /// A call of a function by its name in lower case.
-#[tactic(auto, using(php_syntax::proofs::Views::views, crate::proofs::NodeLemmas::nodes))]
+#[tactic(auto, using(php_syntax::proofs::Views::views, crate::proofs::NodeLemmas::call_high, crate::proofs::NodeLemmas::call_fits))]
 pub fn call(name: Bytes, row: Row) -> Built
     ensures { Builds result (call_expr name (exprs_of row.exprs.items)) }
 {
@@ -246,7 +246,7 @@ pub fn call(name: Bytes, row: Row) -> Built
 }
 
 /// An array of items.
-#[tactic(auto, using(php_syntax::proofs::Views::views, crate::proofs::NodeLemmas::nodes))]
+#[tactic(auto, using(php_syntax::proofs::Views::views, crate::proofs::NodeLemmas::array_high, crate::proofs::NodeLemmas::array_fits))]
 pub fn array(items: Items) -> Built
     ensures { Builds result (array_expr (items_of items.items.items)) }
 {
@@ -255,7 +255,7 @@ pub fn array(items: Items) -> Built
 }
 
 /// An assignment to a variable by keys.
-#[tactic(auto, using(php_syntax::proofs::Views::views, crate::proofs::NodeLemmas::nodes))]
+#[tactic(auto, using(php_syntax::proofs::Views::views, crate::proofs::NodeLemmas::assign_high, crate::proofs::NodeLemmas::assign_fits, crate::proofs::NodeLemmas::unwritable_assign, crate::proofs::NodeLemmas::unkeyed_assign))]
 pub fn assign(alloc: Global, place: Place, value: Operand) -> Result<Built, NoMemory>
     ensures { IfOk result (λ built. Builds built
         (assign_expr place.entry.name.now (path_of place.entry.keys.items) (plain_expr value.tree))) }
@@ -271,7 +271,7 @@ pub fn assign(alloc: Global, place: Place, value: Operand) -> Result<Built, NoMe
 }
 
 /// An assignment that reads its target first.
-#[tactic(auto, using(php_syntax::proofs::Views::views, crate::proofs::NodeLemmas::nodes))]
+#[tactic(auto, using(php_syntax::proofs::Views::views, crate::proofs::NodeLemmas::update_high, crate::proofs::NodeLemmas::update_fits, crate::proofs::NodeLemmas::unwritable_update, crate::proofs::NodeLemmas::unkeyed_update))]
 pub fn update(
     alloc: Global,
     sign: UpdateSign,
@@ -292,7 +292,7 @@ pub fn update(
 }
 
 /// `++` (`up`) or `--` of a variable, before it or after it.
-#[tactic(auto, using(php_syntax::proofs::Views::views, crate::proofs::NodeLemmas::nodes))]
+#[tactic(auto, using(php_syntax::proofs::Views::views, crate::proofs::NodeLemmas::step_high, crate::proofs::NodeLemmas::step_fits, crate::proofs::NodeLemmas::step_broken))]
 pub fn step(alloc: Global, name: &Bytes, up: bool, before: bool) -> Result<Built, NoMemory>
     ensures { IfOk result (λ built. Builds built (step_expr name.now up before)) }
 {

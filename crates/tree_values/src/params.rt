@@ -29,7 +29,6 @@ pub enum Named {
 
 impl Params {
     /// No parameters. Takes no memory.
-    #[tactic(auto, using(crate::proofs::ParamLemmas::params))]
     pub fn empty(alloc: Global) -> Params
         ensures { params_of_list result.params.items ≡ [] }
     {
@@ -41,7 +40,6 @@ impl Params {
     }
 
     /// The parameter of this name and default; None where it may not be written.
-    #[tactic(auto, using(crate::proofs::ParamLemmas::params))]
     pub fn one(alloc: Global, name: &Bytes, default: Optional) -> Result<Named, NoMemory>
         ensures { IfOk result (λ named. Names named name.now (maybe_of default.tree)) }
     {

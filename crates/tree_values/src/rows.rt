@@ -52,7 +52,7 @@ impl Row {
     }
 
     /// These expressions and one more.
-    #[tactic(auto, using(crate::proofs::RowLemmas::rows))]
+    #[tactic(auto, using(crate::proofs::RowLemmas::exprs_push, crate::proofs::RowLemmas::exprs_push_high, crate::proofs::RowLemmas::exprs_push_fit))]
     pub fn with(self, operand: Operand) -> Result<Row, NoMemory>
         ensures { IfOk result (λ row. exprs_of row.exprs.items
             ≡ exprs_and (exprs_of self.exprs.items) (more_exprs (plain_expr operand.tree) no_exprs)) }
@@ -64,7 +64,7 @@ impl Row {
     }
 
     /// The expression that this is, if it is one alone, or none.
-    #[tactic(auto, using(crate::proofs::RowLemmas::rows))]
+    #[tactic(auto, using(crate::proofs::RowLemmas::one_expr_high, crate::proofs::RowLemmas::no_exprs_high, crate::proofs::RowLemmas::one_expr_fits))]
     pub fn only(self) -> Option<Optional>
         ensures { MatchOption result
             (plain.condition_of (plain.exprs (exprs_of self.exprs.items)) ≡ None)
@@ -82,7 +82,7 @@ impl Row {
 
 impl Chain {
     /// A chain of two operands, unless it is over 200 high.
-    #[tactic(auto, using(crate::proofs::RowLemmas::rows))]
+    #[tactic(auto, using(crate::proofs::RowLemmas::two_exprs_high, crate::proofs::RowLemmas::two_exprs_fit))]
     pub fn new(alloc: Global, left: Operand, right: Operand) -> Result<Option<Chain>, NoMemory>
         ensures { IfOk result (λ found. MatchOption found
             (HEIGHT_LIMIT < 1 + max (height (plain_expr left.tree)) (height (plain_expr right.tree)))
@@ -99,7 +99,7 @@ impl Chain {
     }
 
     /// This chain and one more operand, unless it is over 200 high.
-    #[tactic(auto, using(crate::proofs::RowLemmas::rows))]
+    #[tactic(auto, using(crate::proofs::RowLemmas::exprs_push, crate::proofs::RowLemmas::exprs_push_high, crate::proofs::RowLemmas::exprs_push_fit))]
     pub fn with(self, operand: Operand) -> Result<Option<Chain>, NoMemory>
         ensures { IfOk result (λ found. MatchOption found
             (HEIGHT_LIMIT < 1 + height (plain_expr operand.tree))
@@ -128,7 +128,7 @@ impl Items {
     }
 
     /// One item, with its key, if it has one.
-    #[tactic(auto, using(crate::proofs::RowLemmas::rows))]
+    #[tactic(auto, using(crate::proofs::RowLemmas::one_item_high, crate::proofs::RowLemmas::one_item_fits))]
     pub fn one(alloc: Global, key: Optional, value: Operand) -> Result<Items, NoMemory>
         ensures { IfOk result (λ is. items_of is.items.items
             ≡ more_items (maybe_of key.tree) (plain_expr value.tree) no_items) }
@@ -140,7 +140,7 @@ impl Items {
     }
 
     /// These items, and then others, of which there is one at most.
-    #[tactic(auto, using(crate::proofs::RowLemmas::rows))]
+    #[tactic(auto, using(crate::proofs::RowLemmas::items_append, crate::proofs::RowLemmas::items_append_high, crate::proofs::RowLemmas::items_append_fit))]
     pub fn and(self, others: Items) -> Result<Items, NoMemory>
         ensures { IfOk result (λ is. items_of is.items.items
             ≡ items_and (items_of self.items.items) (items_of others.items.items)) }

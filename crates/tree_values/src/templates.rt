@@ -50,7 +50,7 @@ fn is_key_known(key: &PartKey) -> bool
 }
 
 // Whether the language has the variables of members by keys.
-#[tactic(auto, using(crate::proofs::TemplateLemmas::templates))]
+
 fn are_keys_known(known: bool, keys: &[PartKey]) -> bool
     ensures { (e : _) → expr_fits e ≡ known → expr_fits (read_tree e (map plain_key keys.now)) ≡ result }
 {
@@ -75,7 +75,7 @@ fn is_part_known(part: &Part) -> bool
 }
 
 // Whether the language has the variables of all parts.
-#[tactic(auto, using(crate::proofs::TemplateLemmas::templates))]
+
 fn are_known(parts: &[Part]) -> bool
     ensures { exprs_fit (part_trees (map plain_part_of parts.now)) ≡ result }
 {
@@ -112,7 +112,7 @@ fn key_operand(alloc: Global, key: &PartKey) -> Result<Operand, NoMemory>
 }
 
 // The member by keys, the outermost first, unless it is over 200 high.
-#[tactic(auto, using(crate::proofs::TemplateLemmas::templates))]
+
 fn member_by(alloc: Global, array: Operand, keys: &[PartKey]) -> Result<Option<Operand>, NoMemory>
     requires { expr_fits (read_tree (plain_expr array.tree) (map plain_key keys.now)) ≡ true }
     ensures { IfOk result (λ found. MatchOption found
@@ -151,7 +151,7 @@ fn part_operand(alloc: Global, part: &Part) -> Result<Option<Operand>, NoMemory>
 }
 
 /// A text by its parts, which is their join.
-#[tactic(auto, using(php_syntax::proofs::Views::views, crate::proofs::TemplateLemmas::templates, crate::proofs::NodeLemmas::nodes))]
+#[tactic(auto, using(php_syntax::proofs::Views::views, crate::proofs::NodeLemmas::join_high, crate::proofs::NodeLemmas::join_fits))]
 pub fn template(alloc: Global, parts: &[Part]) -> Result<Built, NoMemory>
     ensures { IfOk result (λ built. Builds built (join_expr (part_trees (map plain_part_of parts.now)))) }
 {
