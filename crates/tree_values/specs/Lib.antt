@@ -1,4 +1,0 @@
-pub mod Grown
-pub mod Shown
-pub mod Outsides
-pub mod Named
