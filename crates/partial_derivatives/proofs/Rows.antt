@@ -1,6 +1,6 @@
 -- What the calls put behind rows, node by node.
 use Rattle.std.proofs.Common.{◌≡◌, ℕ, Bool, true, false, List, [], ◌∷◌, ◌++◌, Option, Some, None, slice_get, refl, sym, ◌∙◌, ap, append-nil, append_assoc}
-use Rattle.std.specs.Prelude.{if◌then◌else◌}
+use Rattle.std.specs.Prelude.{if◌then◌else◌, IsTrue, ◌↔◌}
 use Rattle.derivatives.specs.Expressions.{Expr, nothing, empty, range, chain, either, star, among, Members, none, member, lies}
 use Rattle.derivatives.specs.Derivatives.{may_end}
 use Rattle.derivatives.specs.Standing.{expr_at, members_at, IsExpr}
@@ -28,6 +28,10 @@ if_true false xs h = cc
 pub if_false : (t : Bool) (xs : Rows) → t ≡ false → (if t then xs else []) ≡ []
 if_false false xs h = refl
 if_false true xs h = cc
+
+pub not_shown : {P : Type 0} (b : Bool) → b ≡ false → IsTrue b ↔ P → P → ⊥
+not_shown true e h p = cc
+not_shown false e h p = let t : false ≡ true = h.1 p in cc
 
 -- a number that has no expression
 pub no_expr_at : (a : Arena) (n : ℕ) → (IsExpr a n → ⊥) → expr_at a n ≡ nothing

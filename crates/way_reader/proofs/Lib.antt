@@ -2,3 +2,5 @@ pub mod Reading
 pub mod Same
 pub mod Pages
 pub mod Forms
+pub mod Starting
+pub mod Runs

@@ -2,3 +2,5 @@ pub mod Exactness
 pub mod Ways
 pub mod Laws
 pub mod Reader
+pub mod Classes
+pub mod Starts

@@ -11,5 +11,5 @@ mod reader;
 mod way;
 
 pub use laws::{pages_are_read, puts_the_same, ways_are_read, whole_forms_have_texts};
-pub use reader::{Starts, WayReader};
+pub use reader::{PieceWays, Starts, WayReader};
 pub use way::{Spot, Way, WayState};

@@ -5,6 +5,7 @@ ghost use Rattle.byte_readers.specs.Reading.{emitted};
 ghost use Rattle.piece_steps.specs.Readers.{put_out, to_state};
 ghost use Rattle.way_reader.specs.Reader.{starts_at};
 ghost use Rattle.way_reader.specs.Ways.{coded, ended, first_state, move_by, next_state, place_of, tokens_at, tokens_behind, way_reader};
+ghost use Rattle.way_reader.specs.Classes as classes;
 ghost use Rattle.way_reader.specs.Ways as spec;
 
 use crate::moving::{step_by, ways_behind};
@@ -41,15 +42,20 @@ impl Starts {
     }
 }
 
-/// A reader of pages by the ways in which pieces begin. The expressions of their parts lie in an
-/// arena, which stays as it is.
+/// The ways in which pieces begin, and the arena in which the expressions of their parts lie.
 #[derive(Drop)]
-pub struct WayReader {
+pub struct PieceWays {
     pub arena: Arena,
     pub starts: Starts,
 }
 
-impl WayReader {
+/// A reader of pages by the ways in which pieces begin.
+#[derive(Clone, Copy, Drop)]
+pub struct WayReader<'w> {
+    pub ways: &'w PieceWays,
+}
+
+impl<'w> WayReader<'w> {
     /// Where a byte leads from these ways.
     fn step_from(
         &self,
@@ -58,33 +64,33 @@ impl WayReader {
         byte: u8,
     ) -> Result<ReaderStep<WayState>, NoMemory>
         ensures to { IfOk result
-            (λ step. step.to ≡ coded (to_state (way_reader self.now.arena (starts_at self.now.starts))
-            (move_by (spec.ways_behind self.now.arena byte ways.now)
-            (ended self.now.arena (spec.ways_behind self.now.arena byte ways.now))))) }
+            (λ step. step.to ≡ coded (to_state (way_reader self.now.ways.now.arena (starts_at self.now.ways.now.starts))
+            (move_by (spec.ways_behind self.now.ways.now.arena byte ways.now)
+            (ended self.now.ways.now.arena (spec.ways_behind self.now.ways.now.arena byte ways.now))))) }
         ensures emit { IfOk result
-            (λ step. emitted step.emit ≡ put_out (way_reader self.now.arena (starts_at self.now.starts))
-            (move_by (spec.ways_behind self.now.arena byte ways.now)
-            (ended self.now.arena (spec.ways_behind self.now.arena byte ways.now)))) }
+            (λ step. emitted step.emit ≡ put_out (way_reader self.now.ways.now.arena (starts_at self.now.ways.now.starts))
+            (move_by (spec.ways_behind self.now.ways.now.arena byte ways.now)
+            (ended self.now.ways.now.arena (spec.ways_behind self.now.ways.now.arena byte ways.now)))) }
     {
         let taking = Taking {
             alloc,
-            arena: &self.arena,
+            arena: &self.ways.arena,
             byte,
         };
-        Ok(step_by(&self.arena, ways_behind(&taking, ways)?))
+        Ok(step_by(&self.ways.arena, ways_behind(&taking, ways)?))
     }
 }
 
-impl ByteReader for WayReader {
+impl<'w> ByteReader for WayReader<'w> {
     type State = WayState;
 
     ghost first = { λ r. first_state };
 
-    ghost next = { λ r s b. next_state r.arena (starts_at r.starts) s b };
+    ghost next = { λ r s b. next_state r.ways.now.arena (starts_at r.ways.now.starts) s b };
 
-    ghost puts = { λ r s b. tokens_at r.arena (starts_at r.starts) s b };
+    ghost puts = { λ r s b. tokens_at r.ways.now.arena (starts_at r.ways.now.starts) s b };
 
-    ghost lasts = { λ r s. tokens_behind r.arena (starts_at r.starts) s };
+    ghost lasts = { λ r s. tokens_behind r.ways.now.arena (starts_at r.ways.now.starts) s };
 
     fn copy(&self, alloc: Global, state: &WayState) -> Result<WayState, NoMemory> {
         state.copy(alloc)
@@ -106,7 +112,7 @@ impl ByteReader for WayReader {
                 to: WayState::Failed,
                 emit: Emit::Nothing,
             }),
-            WayState::At(spot) => self.step_from(alloc, self.starts.at(*spot), byte),
+            WayState::At(spot) => self.step_from(alloc, self.ways.starts.at(*spot), byte),
             WayState::Inside(ways) => self.step_from(alloc, ways.as_slice(), byte),
         }
     }
@@ -120,7 +126,9 @@ impl ByteReader for WayReader {
 }
 
 /// The end of a class of bytes that leave the same of each of these ways.
-fn last_of(arena: &Arena, ways: &[Way], byte: u8) -> u8 {
+fn last_of(arena: &Arena, byte: u8, ways: &[Way]) -> u8
+    ensures { result ≡ classes.last_of arena.now byte ways.now }
+{
     let mut last = u8::MAX;
     for way in ways {
         last = last.min(last_in_turn(arena, byte, way.parts.as_slice()));
@@ -128,12 +136,14 @@ fn last_of(arena: &Arena, ways: &[Way], byte: u8) -> u8 {
     last
 }
 
-impl RunReader for WayReader {
+impl<'w> RunReader for WayReader<'w> {
     fn last_alike(&self, state: &WayState, byte: u8) -> u8 {
         match state {
             WayState::Failed => u8::MAX,
-            WayState::At(spot) => last_of(&self.arena, self.starts.at(*spot), byte),
-            WayState::Inside(ways) => last_of(&self.arena, ways.as_slice(), byte),
+            WayState::At(spot) => {
+                last_of(&self.ways.arena, byte, self.ways.starts.at(*spot))
+            },
+            WayState::Inside(ways) => last_of(&self.ways.arena, byte, ways.as_slice()),
         }
     }
 }
