@@ -1,6 +1,6 @@
 //! Characters by their bytes, white space and names.
 
-ghost use Rattle.std.specs.Prelude.{◌≡◌, ◌×◌, ◌++◌, ℕ, List, OnOk};
+ghost use Rattle.std.specs.Prelude.{◌≡◌, ◌++◌, ℕ, List, OnOk};
 ghost use Rattle.derivatives.specs.Derivatives.{either_of};
 ghost use Rattle.page_forms.specs.Simple as simple;
 ghost use Rattle.page_forms.specs.Words as words;

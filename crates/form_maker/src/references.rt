@@ -3,7 +3,7 @@
 ghost use Rattle.std.specs.Prelude.{◌≡◌, map, OnOk};
 ghost use Rattle.xml_text.specs.Names.{is_name, is_name_token};
 ghost use Rattle.page_forms.specs.References as spec;
-ghost use Rattle.page_forms.specs.Words as words;
+ghost use Rattle.page_forms.specs.Words.{one_of_words};
 ghost use Rattle.form_maker.specs.Making.{changed, making_of, pushed};
 ghost use Rattle.form_maker.specs.Words.{word_test, words_before};
 ghost use Rattle.dtd_model.specs.References.{known_entities};
@@ -61,7 +61,7 @@ impl Maker {
     pub fn one_of(&mut self, test: WordTest, words: &[Bytes]) -> Result<(), NoMemory>
         ensures { OnOk result
             (making_of self.new
-            ≡ pushed (words.one_of_words (word_test test) words.now) (making_of self.old)) }
+            ≡ pushed (one_of_words (word_test test) words.now) (making_of self.old)) }
     {
         self.nothing()?;
         self.words_before(test, words)?;
@@ -72,7 +72,7 @@ impl Maker {
     fn known_entities(&mut self) -> Result<(), NoMemory>
         ensures { OnOk result
             (making_of self.new
-            ≡ pushed (words.one_of_words is_name known_entities) (making_of self.old)) }
+            ≡ pushed (one_of_words is_name known_entities) (making_of self.old)) }
     {
         self.nothing()?;
         self.word_or(b"apos")?;

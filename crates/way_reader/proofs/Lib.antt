@@ -2,5 +2,3 @@ pub mod Reading
 pub mod Same
 pub mod Pages
 pub mod Forms
-pub mod Starting
-pub mod Runs

@@ -3,4 +3,3 @@ pub mod Ways
 pub mod Laws
 pub mod Reader
 pub mod Classes
-pub mod Starts

@@ -7,7 +7,7 @@ ghost use Rattle.partial_derivatives.specs.Parts.{behind_parts};
 ghost use Rattle.piece_steps.specs.Readers.{put_out, to_state};
 ghost use Rattle.way_reader.specs.Ways.{coded, move_by, way_reader, ways_by};
 ghost use Rattle.way_reader.specs.Ways as spec;
-ghost use Rattle.way_reader.specs.declared.way.Way as ways;
+ghost use Rattle.way_reader.specs.declared.way.Way as declared;
 
 use crate::way::{Way, WayState};
 use byte_readers::{Emit, ReaderStep};
@@ -48,9 +48,9 @@ pub fn ways_behind(taking: &Taking<'_>, ways: &[Way]) -> Result<Row<Way>, NoMemo
 /// Where ways lead: a piece ends by the first that may end here, and no piece comes of the text
 /// where there is none.
 pub fn step_by(arena: &Arena, ways: Row<Way>) -> ReaderStep<WayState>
-    ensures to { (starts : Place → List ways.Way) → result.to
+    ensures to { (starts : Place → List declared.Way) → result.to
         ≡ coded (to_state (way_reader arena.now starts) (move_by ways (spec.ended arena.now ways))) }
-    ensures emit { (starts : Place → List ways.Way) → emitted result.emit
+    ensures emit { (starts : Place → List declared.Way) → emitted result.emit
         ≡ put_out (way_reader arena.now starts) (move_by ways (spec.ended arena.now ways)) }
 {
     for way in ways.as_slice() {

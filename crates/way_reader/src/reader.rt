@@ -5,15 +5,13 @@ ghost use Rattle.byte_readers.specs.Reading.{emitted};
 ghost use Rattle.piece_steps.specs.Readers.{put_out, to_state};
 ghost use Rattle.way_reader.specs.Reader.{starts_at};
 ghost use Rattle.way_reader.specs.Ways.{coded, ended, first_state, move_by, next_state, place_of, tokens_at, tokens_behind, way_reader};
-ghost use Rattle.way_reader.specs.Classes as classes;
 ghost use Rattle.way_reader.specs.Ways as spec;
 
 use crate::moving::{step_by, ways_behind};
 use crate::way::{Spot, Way, WayState};
 use byte_readers::{ByteReader, Emit, ReaderStep};
 use derivatives::Arena;
-use echoing_machine::RunReader;
-use partial_derivatives::{Taking, last_in_turn};
+use partial_derivatives::Taking;
 use std::alloc::Global;
 use text_base::{NoMemory, PageToken};
 
@@ -29,7 +27,7 @@ pub struct Starts {
 
 impl Starts {
     /// The ways in which a piece begins at a spot.
-    fn at(&self, spot: Spot) -> &[Way]
+    pub(crate) fn at(&self, spot: Spot) -> &[Way]
         ensures { result.now ≡ starts_at self.now (place_of spot) }
     {
         match spot {
@@ -121,29 +119,6 @@ impl<'w> ByteReader for WayReader<'w> {
         match state {
             WayState::Failed | WayState::At(_) => Emit::Nothing,
             WayState::Inside(_) => Emit::One(PageToken::Bad),
-        }
-    }
-}
-
-/// The end of a class of bytes that leave the same of each of these ways.
-fn last_of(arena: &Arena, byte: u8, ways: &[Way]) -> u8
-    ensures { result ≡ classes.last_of arena.now byte ways.now }
-{
-    let mut last = u8::MAX;
-    for way in ways {
-        last = last.min(last_in_turn(arena, byte, way.parts.as_slice()));
-    }
-    last
-}
-
-impl<'w> RunReader for WayReader<'w> {
-    fn last_alike(&self, state: &WayState, byte: u8) -> u8 {
-        match state {
-            WayState::Failed => u8::MAX,
-            WayState::At(spot) => {
-                last_of(&self.ways.arena, byte, self.ways.starts.at(*spot))
-            },
-            WayState::Inside(ways) => last_of(&self.ways.arena, byte, ways.as_slice()),
         }
     }
 }
