@@ -20,26 +20,29 @@ making_of m = record { stack = map (expr_at m.arena) m.stack; kept = map (expr_a
 abbrev pub pushed : Expr → Making → Making
 pushed e m = record { stack = e ∷ m.stack; kept = m.kept }
 
--- the last one of a stack changed; none, where there is none
-abbrev pub one_changed : (Expr → Expr) → List Expr → List Expr
-one_changed f [] = []
-one_changed f (e ∷ es) = f e ∷ es
+-- the last one of a stack; what matches no text, where there is none
+abbrev pub last_of : List Expr → Expr
+last_of [] = nothing
+last_of (e ∷ es) = e
 
--- and in what a maker holds
+-- the others, in their order
+abbrev pub others_of : List Expr → List Expr
+others_of [] = []
+others_of (e ∷ es) = es
+
+-- without the last one
+abbrev pub popped : Making → Making
+popped m = record { stack = others_of m.stack; kept = m.kept }
+
+-- the last one changed
 abbrev pub changed : (Expr → Expr) → Making → Making
-changed f m = record { stack = one_changed f m.stack; kept = m.kept }
+changed f m = pushed (f (last_of m.stack)) (popped m)
 
--- one in place of the last two of a stack, the one before the last first; nothing is done where there are fewer
-abbrev pub two_joined : (Expr → Expr → Expr) → List Expr → List Expr
-two_joined f [] = []
-two_joined f (e ∷ []) = e ∷ []
-two_joined f (e ∷ d ∷ es) = f d e ∷ es
-
--- and in what a maker holds
+-- one in place of the last two, the one before the last first
 abbrev pub joined : (Expr → Expr → Expr) → Making → Making
-joined f m = record { stack = two_joined f m.stack; kept = m.kept }
+joined f m = pushed (f (last_of (others_of m.stack)) (last_of m.stack)) (popped (popped m))
 
--- some of the members in any order, and of one more; all as one of page_forms has it: one that is nothing is left out, or leaves nothing
+-- some of these members in any order, and one more. One that matches no text is left out, or leaves nothing where it is required.
 abbrev pub with_one : Bool → Expr → Expr → Expr
 with_one true all nothing = nothing
 with_one false all nothing = all
@@ -55,11 +58,6 @@ join_of Either d e = either_of d e
 join_of EitherBefore d e = either_of e d
 join_of (Member must) d e = with_one must d e
 
--- the last of a stack, behind what is kept
-abbrev pub last_kept : List Expr → List Expr → Making
-last_kept [] kept = record { stack = []; kept = kept }
-last_kept (e ∷ es) kept = record { stack = es; kept = kept ++ e ∷ [] }
-
 -- the last one is no longer on the stack, and kept
 abbrev pub moved : Making → Making
-moved m = last_kept m.stack m.kept
+moved m = record { stack = others_of m.stack; kept = m.kept ++ last_of m.stack ∷ [] }

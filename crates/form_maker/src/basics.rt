@@ -4,7 +4,7 @@ ghost use Rattle.std.specs.Prelude.{◌≡◌, ◌<◌, [], ◌∷◌, IfOk, IfS
 ghost use Rattle.derivatives.specs.Derivatives.{chain_of, either_of};
 ghost use Rattle.derivatives.specs.Expressions.{empty, nothing, range, star};
 ghost use Rattle.derivatives.specs.Standing.{expr_at, Grows, IsExpr, IsMade};
-ghost use Rattle.form_maker.specs.Making.{changed, join_of, joined, making_of, moved, pushed, with_one};
+ghost use Rattle.form_maker.specs.Making.{changed, join_of, joined, last_of, making_of, moved, popped, pushed, with_one};
 
 use crate::joining::Joining;
 use crate::maker::Maker;
@@ -54,30 +54,36 @@ impl Maker {
         Ok(())
     }
 
+    /// The last one, which is taken off the stack; what matches no text, where there is none.
+    fn pop(&mut self) -> Result<usize, NoMemory>
+        ensures last { IfOk result
+            (λ r. IsMade self.new.arena r (last_of (making_of self.old).stack)) }
+        ensures others { OnOk result (making_of self.new ≡ popped (making_of self.old)) }
+        ensures keeps { Grows self.old.arena self.new.arena }
+    {
+        match self.stack.pop() {
+            Some(last) => Ok(last),
+            None => self.arena.nothing(),
+        }
+    }
+
     /// Any number of texts of the last one, one behind the other.
     pub fn star(&mut self) -> Result<(), NoMemory>
         ensures { OnOk result (making_of self.new ≡ changed star (making_of self.old)) }
     {
-        let Some(last) = self.stack.pop() else {
-            return Ok(());
-        };
+        let last = self.pop()?;
         let place = self.arena.star(last)?;
         self.stack.push(place)?;
         Ok(())
     }
 
-    /// One expression in place of the last two. Nothing is done where there are fewer.
+    /// One expression in place of the last two.
     pub fn join(&mut self, joining: Joining) -> Result<(), NoMemory>
         ensures { OnOk result
             (making_of self.new ≡ joined (join_of joining) (making_of self.old)) }
     {
-        let Some(last) = self.stack.pop() else {
-            return Ok(());
-        };
-        let Some(other) = self.stack.pop() else {
-            self.stack.push(last)?;
-            return Ok(());
-        };
+        let last = self.pop()?;
+        let other = self.pop()?;
         let place = joined_in(&mut self.arena, joining, other, last)?;
         self.stack.push(place)?;
         Ok(())
@@ -125,9 +131,7 @@ impl Maker {
     pub fn keep(&mut self) -> Result<(), NoMemory>
         ensures { OnOk result (making_of self.new ≡ moved (making_of self.old)) }
     {
-        let Some(last) = self.stack.pop() else {
-            return Ok(());
-        };
+        let last = self.pop()?;
         self.kept.push(last)?;
         Ok(())
     }

@@ -1,6 +1,8 @@
 //! Fixed values (XML 1.0, 3.3.2).
 
-ghost use Rattle.std.specs.Prelude.{◌≡◌, chars, IfOk, OnOk};
+ghost use Rattle.std.specs.Prelude.{◌≡◌, ◌&&◌, chars, IfOk, OnOk};
+ghost use Rattle.std.specs.List.{list_all};
+ghost use Rattle.dtd_model.specs.References.{is_reference};
 ghost use Rattle.dtd_model.specs.Table.{kind_of};
 ghost use Rattle.dtd_model.specs.TableOf.{table_of};
 ghost use Rattle.page_forms.specs.Tags as spec;
@@ -21,10 +23,7 @@ use xml_text::is_character;
 fn characters(alloc: Global, text: &str) -> Result<Vec<char>, NoMemory>
     ensures { IfOk result (λ cs. cs.items ≡ chars text.now) }
 {
-    let mut characters = Vec::new(alloc);
-    for c in text.chars() {
-        characters.push(c)?;
-    }
+    let characters = text.chars().collect(alloc)?;
     Ok(characters)
 }
 
@@ -35,11 +34,26 @@ fn may_be_quoted(quote: u8, c: char) -> bool
     is_character(c) && !(c == '<' || u32::from(c) == u32::from(quote))
 }
 
-/// Whether these may stand between such quotes, and refer to what is known alone.
+/// Whether these may stand between such quotes, references aside.
+fn are_quoted(quote: u8, cs: &[char]) -> bool
+    ensures { result ≡ list_all (parts.may_be_quoted quote) cs.now }
+{
+    cs.iter().all(|c| may_be_quoted(quote, *c))
+}
+
+/// Whether these are written as a value between such quotes.
+fn is_written(quote: u8, cs: &[char]) -> bool
+    ensures { result
+        ≡ (list_all (parts.may_be_quoted quote) cs.now && parts.refers_by is_reference cs.now) }
+{
+    are_quoted(quote, cs) && refers(cs)
+}
+
+/// Whether these are written so, and refer to what is known alone.
 fn is_value(indexed: &IndexedDtd<'_>, quote: u8, cs: &[char]) -> bool
     ensures { result ≡ spec.is_value (table_of indexed.now.dtd.now).entities quote cs.now }
 {
-    cs.iter().all(|c| may_be_quoted(quote, *c)) && refers(cs) && refers_to_known(indexed, cs)
+    is_written(quote, cs) && refers_to_known(indexed, cs)
 }
 
 /// Whether the bytes are those of a value of a type between such quotes.

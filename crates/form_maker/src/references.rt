@@ -1,7 +1,8 @@
 //! References (XML 1.0, 4.1).
 
 ghost use Rattle.std.specs.Prelude.{◌≡◌, map, OnOk};
-ghost use Rattle.xml_text.specs.Names.{is_name, is_name_token};
+ghost use Rattle.std.specs.List.{list_all};
+ghost use Rattle.xml_text.specs.Names as names;
 ghost use Rattle.page_forms.specs.References as spec;
 ghost use Rattle.page_forms.specs.Words.{one_of_words};
 ghost use Rattle.form_maker.specs.Making.{changed, making_of, pushed};
@@ -21,11 +22,21 @@ pub enum WordTest {
     Token,
 }
 
+/// Whether each byte may stand in a name.
+fn are_in_name(bytes: &[u8]) -> bool
+    ensures { result ≡ list_all names.in_name bytes.now }
+{
+    bytes.iter().all(|byte| in_name(*byte))
+}
+
 /// Whether the bytes are a name token (XML 1.0, 2.3).
 fn is_token(bytes: &[u8]) -> bool
-    ensures { result ≡ is_name_token bytes.now }
+    ensures { result ≡ names.is_name_token bytes.now }
 {
-    !bytes.is_empty() && bytes.iter().all(|byte| in_name(*byte))
+    match bytes {
+        [] => false,
+        [first, rest @ ..] => in_name(*first) && are_in_name(rest),
+    }
 }
 
 impl WordTest {
@@ -72,7 +83,7 @@ impl Maker {
     fn known_entities(&mut self) -> Result<(), NoMemory>
         ensures { OnOk result
             (making_of self.new
-            ≡ pushed (one_of_words is_name known_entities) (making_of self.old)) }
+            ≡ pushed (one_of_words names.is_name known_entities) (making_of self.old)) }
     {
         self.nothing()?;
         self.word_or(b"apos")?;
