@@ -1,3 +1,5 @@
 pub mod Exactness
 pub mod Ways
 pub mod Laws
+pub mod Reader
+pub mod Classes
