@@ -1,0 +1,3 @@
+pub mod CoarseForms
+pub mod Languages
+pub mod Laws
