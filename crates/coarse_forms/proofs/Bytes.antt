@@ -7,7 +7,8 @@ use Rattle.std.proofs.lemmas.Str.{encode_ascii}
 use Rattle.derivatives.specs.Expressions.{Expr, range, either, Matches, is_byte, is_left, is_right}
 use Rattle.derivatives.proofs.NormalForms.{either_shown, either_made}
 use Rattle.page_forms.specs.Words.{ascii}
-use Rattle.page_forms.proofs.Classes.{spells_ascii, range_shown}
+use Rattle.byte_forms.proofs.ByteLemmas.{range_shown}
+use Rattle.page_forms.proofs.Classes.{spells_ascii}
 use Rattle.coarse_forms.specs.CoarseForms.{byte_of}
 
 -- a byte of ASCII that passes

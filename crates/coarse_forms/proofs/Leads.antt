@@ -8,7 +8,7 @@ use Rattle.derivatives.proofs.NormalForms.{chain_shown, either_shown}
 use Rattle.page_model.specs.Parts.{is_quote}
 use Rattle.page_forms.specs.Quotes.{quoted}
 use Rattle.page_forms.specs.Words.{word, ascii}
-use Rattle.page_forms.proofs.Classes.{Between, range_shown}
+use Rattle.byte_forms.proofs.ByteLemmas.{Between, range_shown}
 use Rattle.page_forms.proofs.Spelling.{joins_is, word_shown}
 use Rattle.coarse_forms.specs.CoarseForms.{byte_of}
 use Rattle.coarse_forms.proofs.Bytes.{ascii_shown, byte_shown}
