@@ -16,13 +16,13 @@ use Rattle.set_tables.specs.TableWritten.{text_bytes, text_bytes_in}
 use Rattle.flow_graph.specs.Handed.{Handing, has_key}
 use Rattle.flow_graph.specs.Rows.{points_seen}
 use Rattle.ssa_form.specs.Versions.{asks_of, joined_by}
-use Rattle.set_listing.specs.declared.name.Half.TheVariants.{Text, Array}
-use Rattle.set_listing.specs.declared.name.Aspect.{Aspect}
-use Rattle.set_listing.specs.declared.name.Leaving.TheVariants.{Return, Exit}
-use Rattle.set_listing.specs.declared.name.SetName.{SetName}
-use Rattle.set_listing.specs.declared.name.SetName.TheVariants.{Value, Members, Shown, Result, Input, Output, Joined, Piece, FurtherPiece, FurtherPieces, Out}
+use Rattle.loose_sets.specs.declared.name.Half.TheVariants.{Text, Array}
+use Rattle.loose_sets.specs.declared.name.Aspect.{Aspect}
+use Rattle.loose_sets.specs.declared.name.Leaving.TheVariants.{Return, Exit}
+use Rattle.loose_sets.specs.declared.name.SetName.{SetName}
+use Rattle.loose_sets.specs.declared.name.SetName.TheVariants.{Value, Members, Shown, Result, Input, Output, Joined, Piece, FurtherPiece, FurtherPieces, Out}
 use Rattle.extraction.specs.Numbered.{IsByNumbers, forms_in, counted_of, AreNumbered}
-use Rattle.set_listing.specs.Names.{point_of}
+use Rattle.loose_sets.specs.Table.{point_of}
 use Rattle.extraction.specs.Ends.{AreEnds}
 use Rattle.extraction.specs.Made.{IsMadeBy}
 use Rattle.extraction.specs.declared.tables.FlowTables.{FlowTables}
@@ -134,9 +134,8 @@ module _ (t : FlowTables) (are : AreTables t) where
             )
         | inr b ↦ (
             let asked = numbered.asked b.name (b.number, slice_get_within names b.number b.name b.at, get_or_from_slice_get names b.number b.name b.name b.at) in
-            let list = exactness.exact t are asked.set b.name asked.used asked.stands in
-            let r = list.each b.named.0 b.named.1 in
-            named.names_in flow t.versions are.exact are.joins r.0 b.named.0 r.2 (named.row_in flow t.versions are.exact are.joins asked.set r.0 r.1) n b.named.2
+            let row = (exactness.exact t are b.name b.named.0).0 b.named.1 in
+            named.row_named flow t.versions are.exact are.joins b.name b.named.0 row asked.used n b.named.2
             )
       ]
 

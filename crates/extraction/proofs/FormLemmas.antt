@@ -4,9 +4,9 @@ use Rattle.op_system.specs.declared.op.Op.{Op}
 use Rattle.least_sets.specs.Forms.{Form, text_form, same_form, join_form, before_form, request_form, integer_form, apply_form, yes_form, where_form}
 use Rattle.least_sets.specs.Simulations.{Alike}
 use Rattle.numbered_sets.specs.Numbers.{Keeps}
-use Rattle.set_listing.specs.declared.name.SetName.{SetName}
-use Rattle.set_listing.specs.declared.form.NamedForm.{NamedForm}
-use Rattle.set_listing.specs.Forms.{form_seen}
+use Rattle.loose_sets.specs.declared.name.SetName.{SetName}
+use Rattle.point_listing.specs.declared.form.NamedForm.{NamedForm}
+use Rattle.point_listing.specs.Forms.{form_seen}
 use Rattle.extraction.specs.Asked.{all_names}
 use Rattle.extraction.specs.Numbered.{IsByNumbers}
 use Rattle.extraction.specs.Steps.{IsNameNumbered, IsFormNumbered}

@@ -7,7 +7,7 @@ mod Rules
 pub mod ParamLemmas
 mod ListedEntries
 pub mod Exact
-mod Closed
+pub mod Closed
 mod ListingLemmas
 mod Sums
 mod Universe
@@ -22,5 +22,4 @@ mod PlaceLemmas
 mod FormLemmas
 mod RowLemmas
 mod TableLemmas
-pub mod NamingLemmas
 pub mod Same

@@ -11,8 +11,7 @@ use Rattle.loose_sets.specs.Loose.{LooseBy}
 use Rattle.least_sets.specs.Simulations.{IsMonotone}
 use Rattle.loose_sets.specs.Versions.{linked_in}
 use Rattle.ssa_form.specs.Versions.{joins_of}
-use Rattle.set_listing.specs.declared.name.SetName.{SetName}
-use Rattle.set_listing.specs.Uses.{seen_at}
+use Rattle.loose_sets.specs.declared.name.SetName.{SetName}
 use Rattle.point_listing.specs.Reading.{read_at}
 use Rattle.point_listing.proofs.Exact.{are_exact}
 use Rattle.extraction.specs.Numbered.{AreNumbered}
@@ -33,7 +32,7 @@ module _ (outputs : Op → List ℕ → List ℕ → Type 0) (request : List ℕ
   start_pages flow asks lists is starts names start count rows ends are s has at w =
       let less : s.start.0 < count = (let a = are.start_is in let b = are.count_is in omega arith) in
       let pages =
-      numbering.pages flow (linked_in (joins_of is.versions)) (seen_at (read_at is.versions)) (are_exact flow is.versions is.exact) asks lists is.lister starts names start count rows ends are outputs request circular more w in
+      numbering.pages flow (linked_in (joins_of is.versions)) (read_at is.versions) (are_exact flow is.versions is.exact) asks lists is.lister starts names start count rows ends are outputs request circular more w in
       let texts = number_texts s rows count has s.start less w in (
         λ i. pages.0 (subst (λ (n : ℕ). In (listed rows) outputs request circular n w) at (texts.0 i)),
         λ page. texts.1 (subst (λ (n : ℕ). In (listed rows) outputs request circular n w) (sym at) (pages.1 page)),

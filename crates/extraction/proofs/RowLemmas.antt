@@ -8,9 +8,9 @@ use Rattle.std.specs.List.{sum_by}
 use Rattle.std.proofs.lemmas.List.Sums.{sum_by-append, sum_by_push}
 use Rattle.std.proofs.lemmas.List.Elements.{Contains-push_cases, Contains-append_left, Contains-push}
 use Rattle.least_sets.specs.Forms.{Form}
-use Rattle.set_listing.specs.declared.name.SetName.{SetName}
-use Rattle.set_listing.specs.declared.form.NamedForm.{NamedForm}
-use Rattle.set_listing.specs.Forms.{form_seen, forms_seen}
+use Rattle.loose_sets.specs.declared.name.SetName.{SetName}
+use Rattle.point_listing.specs.declared.form.NamedForm.{NamedForm}
+use Rattle.point_listing.specs.Forms.{form_seen, forms_seen}
 use Rattle.set_tables.specs.declared.rows.Row.{Row}
 use Rattle.set_tables.specs.Forms.{cell_of, cells_of}
 use Rattle.extraction.specs.Asked.{AreAsked, all_names}

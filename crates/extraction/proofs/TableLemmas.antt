@@ -10,7 +10,7 @@ use Rattle.std.proofs.lemmas.List.Elements.{Contains-append_cases, Contains-appe
 use Rattle.least_sets.specs.Forms.{Form, same_form}
 use Rattle.least_sets.specs.Simulations.{Alike}
 use Rattle.numbered_sets.specs.Numbers.{AreDifferent}
-use Rattle.set_listing.specs.declared.name.SetName.{SetName}
+use Rattle.loose_sets.specs.declared.name.SetName.{SetName}
 use Rattle.set_tables.specs.declared.rows.RowForm.{RowForm}
 use Rattle.set_tables.specs.declared.rows.RowForm.TheVariants as form
 use Rattle.set_tables.specs.declared.rows.Row.{Row}

@@ -3,7 +3,7 @@ use Rattle.std.specs.Prelude.{ℕ, List}
 use Rattle.op_system.specs.declared.system.OpSystem.{OpSystem}
 use Rattle.flow_code.specs.Points.{PlainFlow}
 use Rattle.least_sets.specs.Forms.{Form}
-use Rattle.set_listing.specs.declared.name.SetName.{SetName}
+use Rattle.loose_sets.specs.declared.name.SetName.{SetName}
 use Rattle.extraction.specs.Numbered.{AreNumbered}
 use Rattle.set_tables.specs.TableWritten.{IsWrittenFrom}
 use Rattle.extraction.specs.Ends.{AreEnds}

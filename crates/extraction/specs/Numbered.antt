@@ -4,7 +4,7 @@ use Rattle.std.specs.List.{sum_by}
 use Rattle.least_sets.specs.Forms.{Form, same_form}
 use Rattle.least_sets.specs.Simulations.{Alike}
 use Rattle.numbered_sets.specs.Numbers.{AreDifferent}
-use Rattle.set_listing.specs.declared.name.SetName.{SetName}
+use Rattle.loose_sets.specs.declared.name.SetName.{SetName}
 use Rattle.extraction.specs.Asked.{all_names}
 
 -- the number is that of the name

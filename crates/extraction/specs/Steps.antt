@@ -2,7 +2,7 @@
 use Rattle.std.specs.Prelude.{◌≡◌, ◌+◌, ◌⊎◌, ℕ, List, Contains, length}
 use Rattle.least_sets.specs.Forms.{Form, same_form}
 use Rattle.numbered_sets.specs.Numbers.{Keeps, AddsOnly}
-use Rattle.set_listing.specs.declared.name.SetName.{SetName}
+use Rattle.loose_sets.specs.declared.name.SetName.{SetName}
 use Rattle.extraction.specs.Asked.{all_names}
 use Rattle.std.specs.List.{sum_by}
 use Rattle.extraction.specs.Numbered.{IsAt, IsByNumbers, NamedIn, CountAlike, counted_of}

@@ -1,13 +1,14 @@
 //! Numbers of the names in forms.
 
 ghost use Rattle.std.specs.Prelude.{IfOk};
-ghost use Rattle.set_listing.specs.Forms.{form_seen};
+ghost use Rattle.point_listing.specs.Forms.{form_seen};
 ghost use Rattle.set_tables.specs.Forms.{form_of};
 ghost use Rattle.extraction.specs.Steps.{IsNameNumbered, IsFormNumbered};
 
 use indexmap::IndexSet;
+use loose_sets::SetName;
 use numbered_sets::number;
-use set_listing::{NamedForm, SetName};
+use point_listing::NamedForm;
 use set_tables::RowForm;
 use text_base::NoMemory;
 

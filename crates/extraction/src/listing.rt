@@ -1,9 +1,9 @@
 //! The worklist: names are taken up in the order of their numbers, each once.
 
 ghost use Rattle.std.specs.Prelude.{◌≡◌, ◌<◌, length, slice_get, Contains, IfOk, IfSome, OnOk};
-ghost use Rattle.set_listing.specs.declared.name.SetName as plain;
+ghost use Rattle.loose_sets.specs.declared.name.SetName as plain;
 ghost use Rattle.numbered_sets.specs.Numbers.{Keeps};
-ghost use Rattle.set_listing.specs.Forms.{forms_seen};
+ghost use Rattle.point_listing.specs.Forms.{forms_seen};
 ghost use Rattle.set_tables.specs.Forms.{cells_of};
 ghost use Rattle.extraction.specs.Numbered.{AreListed, AreReached, NamedIn};
 ghost use Rattle.extraction.specs.Steps.{AddsRows, AskedIn};
@@ -11,8 +11,9 @@ ghost use Rattle.extraction.specs.Steps.{AddsRows, AskedIn};
 use crate::Lister;
 use crate::forms::number_form;
 use indexmap::IndexSet;
+use loose_sets::SetName;
 use numbered_sets::count;
-use set_listing::{NamedForm, SetName};
+use point_listing::NamedForm;
 use set_tables::Row;
 use std::alloc::Global;
 use text_base::NoMemory;

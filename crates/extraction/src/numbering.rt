@@ -2,7 +2,7 @@
 
 ghost use Rattle.std.specs.Prelude.{◌≡◌, ◌<◌, ◌+◌, ◌++◌, map, length, Contains, IfOk, OnOk};
 ghost use Rattle.least_sets.specs.Forms.{same_form};
-ghost use Rattle.set_listing.specs.declared.name.SetName as plain;
+ghost use Rattle.loose_sets.specs.declared.name.SetName as plain;
 ghost use Rattle.set_tables.specs.Below.{RowsAreBelow};
 ghost use Rattle.set_tables.specs.Forms.{cells_of};
 ghost use Rattle.extraction.specs.Numbered.{AreNumbered};
@@ -12,8 +12,8 @@ use crate::Lister;
 use crate::forms::number_name;
 use crate::listing::list_all;
 use indexmap::IndexSet;
+use loose_sets::SetName;
 use numbered_sets::count;
-use set_listing::SetName;
 use set_tables::{Row, RowForm, SetTable};
 use std::alloc::Global;
 use text_base::NoMemory;

@@ -13,8 +13,8 @@ ghost use Rattle.extraction.specs.Rules.{AreLooseRulesBy};
 
 use crate::{Lister, number_sets};
 use flow_code::FlowProgram;
+use loose_sets::{Leaving, SetName};
 use op_system::OpSystem;
-use set_listing::{Leaving, SetName};
 use set_tables::{GivenTexts, Reading, system_by};
 use std::alloc::Global;
 use text_base::NoMemory;

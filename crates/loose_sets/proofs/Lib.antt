@@ -1,5 +1,11 @@
 mod Examples
+mod Cells
 pub mod Exact
-pub mod Reading
-pub mod ByVersions
+pub mod Returned
+pub mod Handed
+pub mod Nulls
+pub mod Lists
+pub mod Placed
+pub mod Sourced
+pub mod Carried
 pub mod OfVersions

@@ -1,7 +1,7 @@
 use Rattle.std.proofs.Common.{arith, ◌≡◌, [], sym, refl, ap, ◌∙◌, ◌++◌, List}
 use Rattle.std.specs.Vec.Iter.{into_iter_items}
-use Rattle.set_listing.specs.declared.form.NamedForm.{NamedForm}
-use Rattle.set_listing.specs.Forms.{forms_seen}
+use Rattle.point_listing.specs.declared.form.NamedForm.{NamedForm}
+use Rattle.point_listing.specs.Forms.{forms_seen}
 use Rattle.extraction.proofs.RowLemmas.{rest_of, rows_none, forms_more, all_named, rows_done, no_items}
 use Rattle.extraction.proofs.listing.add_rows.Goals as goal
 

@@ -1,6 +1,6 @@
 use Rattle.std.proofs.Common.{◌≡◌, ◌++◌}
 use Rattle.std.specs.Vec.Iter.{into_iter_items}
-use Rattle.set_listing.specs.Forms.{forms_seen}
+use Rattle.point_listing.specs.Forms.{forms_seen}
 use Rattle.set_tables.specs.Forms.{cells_of}
 use Rattle.extraction.specs.Steps.{AddsRows}
 use Rattle.extraction.specs.Numbered.{NamedIn}

@@ -1,6 +1,6 @@
 use Rattle.std.proofs.Common.{List, subst, sym}
 use Rattle.flow_code.specs.View.{plain_flow}
-use Rattle.set_listing.specs.declared.name.SetName.{SetName}
+use Rattle.loose_sets.specs.declared.name.SetName.{SetName}
 use Rattle.set_tables.specs.Forms.{cells_of}
 use Rattle.extraction.specs.Ends.{AreEnds}
 use Rattle.extraction.proofs.Pages.{start_pages, ends_asked}
