@@ -8,7 +8,7 @@ mod Complete
 mod Live
 mod Lists
 mod Closed
-mod Kept
+pub mod Kept
 mod Joined
 mod RequestClosed
-mod Sizes
+pub mod Sizes

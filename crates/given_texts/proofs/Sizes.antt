@@ -28,7 +28,7 @@ kept_pass before behind marks base moves (p ∷ ps) h =
     both_pass behind (kept_one marks base p) (kept marks base ps) (one_passes behind (right_kept marks p.right) (moved_production base p) (moves p two.0)) (kept_pass before behind marks base moves ps two.1)
 
 -- numbers below a count, by a higher count
-symbol_wider : (n m : ℕ) → n ≤ m → (s : Symbol) → symbol_below n s ≡ true → symbol_below m s ≡ true
+pub symbol_wider : (n m : ℕ) → n ≤ m → (s : Symbol) → symbol_below n s ≡ true → symbol_below m s ≡ true
 symbol_wider n m le (Range r) h = refl
 symbol_wider n m le (Token t) h = refl
 symbol_wider n m le (Nt a) h = let less = ltb-true a.0 n h in lt-ltb a.0 m (omega (arith, less, le))
@@ -39,7 +39,7 @@ symbols_wider n m le (s ∷ ss) h =
     let two = and_parts (symbol_below n s) (list_all (symbol_below n) ss) h in
     and_from (symbol_below m s) (list_all (symbol_below m) ss) (symbol_wider n m le s two.0) (symbols_wider n m le ss two.1)
 
-wider : (n m : ℕ) → n ≤ m → (ps : List Production) → AreBelow n ps → AreBelow m ps
+pub wider : (n m : ℕ) → n ≤ m → (ps : List Production) → AreBelow n ps → AreBelow m ps
 wider n m le [] h = refl
 wider n m le (p ∷ ps) h =
     let two = and_parts (production_below n p) (list_all (production_below n) ps) h in

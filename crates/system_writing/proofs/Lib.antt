@@ -1,0 +1,16 @@
+pub mod Places
+pub mod Parts
+pub mod Texts
+pub mod Simulating
+pub mod Same
+mod Adding
+pub mod Changing
+mod Growing
+mod Ends
+pub mod Rows
+pub mod Names
+pub mod Begun
+pub mod Finished
+pub mod Below
+pub mod Sizes
+mod PutLemmas
