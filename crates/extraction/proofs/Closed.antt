@@ -24,7 +24,7 @@ use Rattle.loose_sets.proofs.Carried as table
 use Rattle.loose_sets.proofs.Carried.{IsFixed, Knows, IsKnown, Carries}
 use Rattle.loose_sets.proofs.OfVersions.{outputs}
 use Rattle.loose_sets.proofs.Returned.{none_in, only_one}
-use Rattle.extraction.specs.Asked.{all_names}
+use Rattle.system_writing.specs.Forms.{all_names}
 
 -- the aspects by keys that are told apart
 pub knows_told : (flow : PlainFlow) → Knows flow (IsAspect (told_keys flow))

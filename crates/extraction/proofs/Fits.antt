@@ -11,7 +11,8 @@ use Rattle.flow_code.specs.Points.{PlainKeyRef, int_ref, text_ref, read_ref, Pla
 use Rattle.flow_code.specs.Lawful.{nexts}
 use Rattle.least_sets.specs.Forms.{Form, text_form, same_form, join_form, integer_form}
 use Rattle.plain_values.specs.Text.{text_of}
-use Rattle.set_tables.specs.TableWritten.{text_bytes}
+use Rattle.system_writing.specs.Forms.{text_bytes}
+use Rattle.extraction.specs.Numbered.{bytes_of}
 use Rattle.loose_sets.specs.declared.name.Half.{Half}
 use Rattle.loose_sets.specs.declared.name.Half.TheVariants.{Text, Array}
 use Rattle.loose_sets.specs.declared.name.Aspect.{Aspect}
@@ -31,10 +32,6 @@ use Rattle.loose_sets.specs.Functions.{used_pair, used_pairs, entry_forms}
 use Rattle.extraction.specs.Sizes.{key_bytes, item_bytes, source_bytes, point_bytes, source_parts, point_parts}
 use Rattle.extraction.proofs.Sums.{sum_none}
 use Rattle.extraction.proofs.Universe.{joined_count}
-
--- how many bytes stand in forms
-abbrev pub bytes_of : Forms → ℕ
-bytes_of forms = sum_by (λ f. text_bytes f) forms
 
 -- at most so many forms, with so many bytes
 abbrev pub Fits : ℕ → ℕ → Forms → Type 0

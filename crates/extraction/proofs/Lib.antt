@@ -1,6 +1,5 @@
 mod Readings
 mod EndLemmas
-mod NumberingLemmas
 mod Pages
 mod Operations
 mod Rules
@@ -19,7 +18,7 @@ mod Joins
 pub mod Bounded
 mod Examples
 mod PlaceLemmas
-mod FormLemmas
+mod NumberLemmas
 mod RowLemmas
-mod TableLemmas
-pub mod Same
+mod TableLaws
+mod Extracted

@@ -15,7 +15,7 @@ use Rattle.ssa_form.specs.declared.version.Version.{Version}
 use Rattle.ssa_form.specs.declared.versions.Versions.{Versions}
 use Rattle.ssa_form.specs.Views as ssa
 use Rattle.ssa_form.specs.Versions.{joins_in, asks_of, rows_of, joins_of, version_of, IsExact, AreJoins}
-use Rattle.extraction.specs.Asked.{all_names}
+use Rattle.system_writing.specs.Forms.{all_names}
 use Rattle.point_listing.specs.Reading.{or_join, read_at}
 use Rattle.extraction.proofs.Universe as universe
 use Rattle.least_sets.specs.Forms.{Form}

@@ -2,8 +2,7 @@
 use Rattle.std.proofs.Common.{◌≡◌, ◌↔◌, ℕ, List, subst}
 use Rattle.op_system.specs.declared.system.OpSystem.{OpSystem}
 use Rattle.flow_code.specs.Points.{PlainFlow}
-use Rattle.least_sets.specs.Parts.{Closed}
-use Rattle.least_sets.specs.Closed.{IsClosed}
+use Rattle.given_texts.specs.Closed.{Closed, IsClosed}
 use Rattle.extraction.specs.ListedMade.{IsMadeWith}
 
 -- texts that are the same are given too

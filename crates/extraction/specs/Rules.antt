@@ -14,7 +14,7 @@ use Rattle.loose_sets.specs.declared.name.SetName.{SetName}
 use Rattle.loose_sets.specs.Table.{Row}
 use Rattle.loose_sets.specs.Loose.{IsIn}
 use Rattle.op_bytes.specs.Cycles.{IsInCycle}
-use Rattle.set_tables.specs.Sets.{SystemText}
+use Rattle.extraction.specs.Texts.{SystemText}
 
 -- a nonterminal of the system has exactly the texts of a loose set, by this reading
 abbrev pub HasTexts : (Op → List ℕ → List ℕ → Type 0) → (List ℕ → Type 0) → ((ℕ → Type 0) → List ℕ → Type 0) → PlainFlow → OpSystem → SetName

@@ -5,7 +5,7 @@ pub mod Simulating
 pub mod Same
 mod Adding
 pub mod Changing
-mod Growing
+pub mod Growing
 mod Ends
 pub mod Rows
 pub mod Names

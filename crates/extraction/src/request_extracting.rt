@@ -3,19 +3,19 @@
 ghost use Rattle.std.specs.Prelude.{◌↔◌, ℕ, List, length, IfOk};
 ghost use Rattle.cfg_grammar.specs.Tokens.{HaveNoToken};
 ghost use Rattle.cfg_grammar.specs.declared.symbol.Symbol as symbols;
-ghost use Rattle.least_sets.specs.Closed.{HasText};
+ghost use Rattle.given_texts.specs.Closed.{HasText};
 ghost use Rattle.flow_code.specs.View.{plain_flow};
 ghost use Rattle.loose_sets.specs.Loose.{LooseBy};
-ghost use Rattle.set_tables.specs.Sets.{SystemText};
+ghost use Rattle.extraction.specs.Texts.{SystemText};
 ghost use Rattle.extraction.specs.Rules.{AreLooseRulesBy};
 ghost use Rattle.extraction.specs.ListedMade.{IsMadeOver};
 ghost use Rattle.extraction.specs.Bounds.{IsBoundedWith};
 
-use crate::{FlowLister, extract_by};
+use crate::{FlowLister, Reading, extract_by};
 use cfg_grammar::Grammar;
 use flow_code::FlowProgram;
 use op_system::OpSystem;
-use set_tables::{Reading, request_texts};
+use given_texts::request_texts;
 use std::alloc::Global;
 use text_base::NoMemory;
 
@@ -47,6 +47,6 @@ pub fn extract_over<R: Reading>(
 {
     let lister = FlowLister::new(alloc, flow)?;
     let given = request_texts(alloc, request)?;
-    let system = extract_by(alloc, flow, &lister, reading, &given)?;
+    let system = extract_by(alloc, flow, &lister, reading, given)?;
     Ok(system)
 }

@@ -1,12 +1,12 @@
 use Rattle.std.proofs.Common.{refl, length, ◌+◌}
 use Rattle.flow_code.specs.View.{plain_flow}
 use Rattle.cfg_grammar.specs.declared.symbol.Symbol.TheVariants.{Nt}
-use Rattle.least_sets.specs.Closed.{HasText}
-use Rattle.set_tables.specs.Given.{closed_of}
+use Rattle.given_texts.specs.Closed.{HasText}
+use Rattle.given_texts.specs.Given.{closed_of}
 use Rattle.extraction.specs.ListedMade.{IsMadeOver}
 use Rattle.extraction.proofs.Bounded.{is_bounded_over}
 use Rattle.extraction.proofs.Readings.{closed_by, made_with}
-use Rattle.extraction.proofs.reading.extract_over.Goals as goal
+use Rattle.extraction.proofs.request_extracting.extract_over.Goals as goal
 
 pub extract_by-requires-clause-closed : goal.extract_by-requires-clause-closed
 extract_by-requires-clause-closed g c =
