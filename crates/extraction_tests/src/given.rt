@@ -2,7 +2,7 @@
 //! 2.2).
 
 use crate::words::derives;
-use set_tables::given_texts;
+use given_texts::given_texts;
 use std::test::Fail;
 
 /// Texts of XML's characters, and bytes that are none.
