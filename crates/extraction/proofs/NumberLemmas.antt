@@ -16,7 +16,7 @@ use Rattle.system_writing.specs.Sizes.{numbers_due, lines_due}
 use Rattle.system_writing.proofs.Places.{contains_at, at_contains}
 use Rattle.system_writing.proofs.Growing.{at_end}
 use Rattle.system_writing.proofs.Names.{at_name, number_of, set_added, start_added}
-use Rattle.system_writing.proofs.Rows.{row_written}
+use Rattle.system_writing.proofs.RowLaws.{row_written}
 use Rattle.system_writing.proofs.Sizes.{set_small, start_small, row_small}
 use Rattle.extraction.specs.declared.work.Work.{Work}
 use Rattle.extraction.specs.Steps.{IsPaired, HasNumber, Stands, Adds, Grows, IsNameNumbered, IsFormNumbered, IsRowWritten}

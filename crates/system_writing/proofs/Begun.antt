@@ -26,7 +26,7 @@ use Rattle.system_writing.specs.Written.{Denotes, IsRight, IsWritten}
 use Rattle.system_writing.specs.Steps.{IsBegun}
 use Rattle.system_writing.specs.Drafts.{IsAt, settled, AreSaid, AreWaiting, IsDraft}
 use Rattle.system_writing.proofs.Growing.{push_cases, at_end}
-use Rattle.system_writing.proofs.Ends.{moved}
+use Rattle.system_writing.proofs.EndLaws.{moved}
 
 module _ (N : Type 0) (closed : Closed) (count : ℕ) (below : AreBelow count closed.productions) (plain : HaveNoToken closed.productions) where
   -- the closed parts by their numbers
@@ -35,10 +35,12 @@ module _ (N : Type 0) (closed : Closed) (count : ℕ) (below : AreBelow count cl
   parts_from from (suc n) = closed_part from ∷ parts_from (suc from) n
 
   long : (from n : ℕ) → length (parts_from from n) ≡ n
+  unfolding parts_from
   long from zero = refl
   long from (suc n) = ap suc (long (suc from) n)
 
   read : (from n k : ℕ) → k < n → slice_get (parts_from from n) k ≡ Some (closed_part (from + k))
+  unfolding parts_from
   read from zero k h = absurd (omega (arith, h))
   read from (suc n) zero h = ap (λ z. Some (closed_part z)) (omega arith)
   read from (suc n) (suc k) h = read (suc from) n k (omega (arith, h)) ∙ ap (λ z. Some (closed_part z)) (omega arith)
@@ -180,10 +182,10 @@ module _ (N : Type 0) (closed : Closed) (count : ℕ) (below : AreBelow count cl
   no_apply _ _ op (PartRow.apply k j _ c) = no_row k _ c
 
   once : (p : Part N) (n m : ℕ) → is_set p ≡ true → slice_get parts n ≡ Some p → slice_get parts m ≡ Some p → n ≡ m
+  unfolding is_set
   once p n m set h g = by n p (stands n p h) m set (stands m p g)
     where
       by : (k : ℕ) (p : Part N) → Stands k p → (l : ℕ) → is_set p ≡ true → Stands l p → k ≡ l
-      unfolding is_set
       by _ _ (Stands.closed_one k less) l set other = cc
       by _ _ Stands.the_start _ set Stands.the_start = refl
 
@@ -200,7 +202,7 @@ module _ (N : Type 0) (closed : Closed) (count : ℕ) (below : AreBelow count cl
     no_range = no_range;
   }
 
-  none_said : AreSaid [] [] [] []
+  none_said : AreSaid {N = N} [] [] [] []
   none_said = record {
     each_yes = λ a h. Contains-nil _ h;
     each_same = λ a s h. Contains-nil _ h;
@@ -209,10 +211,10 @@ module _ (N : Type 0) (closed : Closed) (count : ℕ) (below : AreBelow count cl
     all_same = λ n c a m at other h. Contains-nil _ h;
   }
 
-  none_waiting : AreWaiting [] [] [] []
+  none_waiting : AreWaiting {N = N} [] [] [] []
   none_waiting = record { each = λ x h. Contains-nil _ h; all = λ n c w h. Contains-nil _ h }
 
-  pub begun : (d : Draft) → IsBegun closed count d → closed.request < count → closed.integer < count → IsDraft [] [] [] [] closed d
+  pub begun : (d : Draft) → IsBegun closed count d → closed.request < count → closed.integer < count → IsDraft {N = N} [] [] [] [] closed d
   begun d is asked integer = record {
     parts = parts;
     all = length-append closed_parts (start_part ∷ []) ∙ ap (λ z. z + 1) (long 0 count) ∙ sym is.count_is;
@@ -225,9 +227,9 @@ module _ (N : Type 0) (closed : Closed) (count : ℕ) (below : AreBelow count cl
     sets = λ n k h. absurd (no_set n k h);
     rows_named = λ n f h. Contains-nil _ h;
     forms_named = λ n c f h i. Contains-nil _ h;
-    said = subst (λ z. AreSaid [] [] [] z) (sym is.said) none_said;
-    waiting = subst (λ z. AreWaiting [] [] [] z) (sym is.waiting) none_waiting;
+    said = subst (λ z. AreSaid {N = N} [] [] [] z) (sym is.said) none_said;
+    waiting = subst (λ z. AreWaiting {N = N} [] [] [] z) (sym is.waiting) none_waiting;
   }
     where
-      no_number : (n : N) (k : ℕ) → IsAt [] [] n k → ⊥
+      no_number : (n : N) (k : ℕ) → IsAt {N = N} [] [] n k → ⊥
       no_number n k h = let at = h.name in cc

@@ -1,5 +1,5 @@
 -- A draft that is finished stands for its rows.
-use Rattle.std.proofs.Common.{◌≡◌, ◌⊎◌, ◌↔◌, inl, inr, ⊤, ℕ, Bool, true, false, List, [], ◌∷◌, ◌++◌, Some, None, Option, refl, sym, ◌∙◌, ap, subst, get_or}
+use Rattle.std.proofs.Common.{◌≡◌, ◌⊎◌, ◌↔◌, inl, inr, ℕ, Bool, true, false, List, [], ◌∷◌, ◌++◌, Some, None, Option, refl, sym, ◌∙◌, ap, subst, get_or}
 use Rattle.std.specs.Prelude.{Contains, slice_get}
 use Rattle.std.proofs.lemmas.List.Elements.{Contains-append_left, Contains-append_right, Contains-append_cases}
 use Rattle.string_functions.proofs.Members.{Contains-nil, Contains-head}
@@ -31,8 +31,8 @@ use Rattle.system_writing.proofs.Adding as adding
 use Rattle.system_writing.proofs.Adding.{last_is}
 use Rattle.system_writing.proofs.Changing as changing
 use Rattle.system_writing.proofs.Changing.{text_row, row_of, Asks, is_row}
-use Rattle.system_writing.proofs.Ends as ends
-use Rattle.system_writing.proofs.Ends.{Over, over_itself, moved, right_of_text}
+use Rattle.system_writing.proofs.EndLaws as ends
+use Rattle.system_writing.proofs.EndLaws.{Over, over_itself, moved, right_of_text}
 use Rattle.system_writing.proofs.Names.{at_name, number_of}
 
 module _ (N : Type 0) (starts names : List N) (numbers : List ℕ) (closed : Closed) (rows : List (N × Form N)) (draft : Draft) (d : IsDraft rows starts names numbers closed draft) where
@@ -43,9 +43,9 @@ module _ (N : Type 0) (starts names : List N) (numbers : List ℕ) (closed : Clo
   abbrev says : N → Type 0
   says n = Says table n
 
-  is_one : {m : N} → is_set (set_part m) ≡ true
+  is_one : (m : N) → is_set (set_part m) ≡ true
   unfolding is_set
-  is_one = refl
+  is_one m = refl
 
   -- one name at a number, and one number of a name
   one_name : (n m : N) (k : ℕ) → IsAt names numbers n k → IsAt names numbers m k → n ≡ m
@@ -151,6 +151,7 @@ module _ (N : Type 0) (starts names : List N) (numbers : List ℕ) (closed : Clo
       at_set = d.named n x.set row.2.set
 
       text_written : (new : Lines) → says c → WritesText mid new x.set x.text → Over N (P more) d.parts new
+      unfolding row_of Asks
       text_written new asks writes =
           let t = ends.put_text N (done xs) (Contains starts) says closed d.parts mid writes.between x.text writes.symbol writes.puts o in
           record {
@@ -158,17 +159,15 @@ module _ (N : Type 0) (starts names : List N) (numbers : List ℕ) (closed : Clo
             all = t.0.all ∙ sym writes.adds.0;
             written = moved N (P more) t.0.parts new (writes.between.productions.items ++ (record { left = record { 0 = x.set }; right = text_right writes.symbol }) ∷ []) writes.between.rules.items writes.adds.1 writes.adds.2
                 (adding.add_production N (P xs) (P more) stays t.0.parts writes.between.productions.items writes.between.rules.items t.0.written (set_part n) (text_row x.text) x.set
-                (row_there asks) is_one (t.0.keeps x.set (set_part n) at_set) cases (text_right writes.symbol) (right_of_text t.0.parts x.text writes.symbol t.1));
+                (row_there asks) (is_one n) (t.0.keeps x.set (set_part n) at_set) cases (text_right writes.symbol) (right_of_text t.0.parts x.text writes.symbol t.1));
             keeps = t.0.keeps;
             sets = t.0.sets;
           }
         where
           row_there : says c → P more (set_part n) (text_row x.text)
-          unfolding row_of Asks
           row_there asks = is_row (done more) (Contains starts) says closed n form (text_row x.text) here refl asks
 
           cases : (p : Part N) (g : Form (Part N)) → P more p g → P xs p g ⊎ ((p ≡ set_part n) × (text_row x.text ≡ g))
-          unfolding row_of
           cases p g r =
               elim (changing.old_or_new N (done xs) (done more) (Contains starts) says closed n form split p g r) [
                 | inl old ↦ inl old
@@ -179,6 +178,7 @@ module _ (N : Type 0) (starts names : List N) (numbers : List ℕ) (closed : Clo
               some_same e = cc
 
       nothing_written : (says c → ⊥) → Over N (P more) d.parts mid
+      unfolding Asks
       nothing_written none = record {
         parts = o.parts;
         all = o.all;
@@ -188,7 +188,6 @@ module _ (N : Type 0) (starts names : List N) (numbers : List ℕ) (closed : Clo
       }
         where
           old : (p : Part N) (g : Form (Part N)) → P more p g → P xs p g
-          unfolding Asks
           old p g r =
               elim (changing.old_or_new N (done xs) (done more) (Contains starts) says closed n form split p g r) [
                 | inl there ↦ there
@@ -251,5 +250,5 @@ module _ (N : Type 0) (starts names : List N) (numbers : List ℕ) (closed : Clo
             (subst (λ z. IsWritten (PartRow table (Contains starts) says closed) o.parts is.lines.productions.items z) (sym is.rules) o.written);
         begins = subst (λ z. slice_get o.parts z ≡ Some start_part) (sym is.start) (o.keeps draft.start start_part d.start);
         named = λ n has. let k = number_of names numbers n d.long has in (k.0, o.keeps k.0 (set_part n) (d.named n k.0 k.1));
-        sets = λ n k h. at_name names numbers n k (d.sets n k (o.sets (set_part n) k is_one h));
+        sets = λ n k h. at_name names numbers n k (d.sets n k (o.sets (set_part n) k (is_one n) h));
       }

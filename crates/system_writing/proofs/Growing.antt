@@ -42,15 +42,15 @@ module _ {N : Type 0} (parts : List (Part N)) (e : Part N) where
   right_more _ _ (IsRight.two p q s t d g) = IsRight.two p q s t (denotes_more p s d) (denotes_more q t g)
 
 -- a part that is not listed yet, with its productions
-record IsFresh {N : Type 0} (P : Part N → Form (Part N) → Type 0) (parts : List (Part N)) (e : Part N) (more : List Production) : Type 0 where
-  set : is_set e ≡ true → (n : ℕ) → slice_get parts n ≡ Some e → ⊥
-  no_byte : (b : ℕ) → e ≡ end_part (b ∷ []) → ⊥
-  no_range : (r : ByteRange) → e ≡ range_part r → ⊥
-  each : (left : nt.Nt) (right : Right) → Contains more (record { left = left; right = right }) → (f : Form (Part N)) × (left.0 ≡ length parts) × P e f × IsRight (parts ++ e ∷ []) f right
-  empty : P e (text_form []) → ⊥
-  same : (q : Part N) → P e (same_form q) → ⊥
-  join : (q o : Part N) → P e (join_form q o) → (s t : Symbol) × Denotes (parts ++ e ∷ []) q s × Denotes (parts ++ e ∷ []) o t × Contains more (record { left = record { 0 = length parts }; right = Two s t })
-  apply : (q : Part N) (op : Op) → P e (apply_form op q) → ⊥
+pub record IsFresh {N : Type 0} (P : Part N → Form (Part N) → Type 0) (parts : List (Part N)) (e : Part N) (more : List Production) : Type 0 where
+  pub set : is_set e ≡ true → (n : ℕ) → slice_get parts n ≡ Some e → ⊥
+  pub no_byte : (b : ℕ) → e ≡ end_part (b ∷ []) → ⊥
+  pub no_range : (r : ByteRange) → e ≡ range_part r → ⊥
+  pub each : (left : nt.Nt) (right : Right) → Contains more (record { left = left; right = right }) → (f : Form (Part N)) × (left.0 ≡ length parts) × P e f × IsRight (parts ++ e ∷ []) f right
+  pub empty : P e (text_form []) → ⊥
+  pub same : (q : Part N) → P e (same_form q) → ⊥
+  pub join : (q o : Part N) → P e (join_form q o) → (s t : Symbol) × Denotes (parts ++ e ∷ []) q s × Denotes (parts ++ e ∷ []) o t × Contains more (record { left = record { 0 = length parts }; right = Two s t })
+  pub apply : (q : Part N) (op : Op) → P e (apply_form op q) → ⊥
 
 module _ (N : Type 0) (P : Part N → Form (Part N) → Type 0) (parts : List (Part N)) (productions : List Production) (rules : List OpRule) (written : IsWritten P parts productions rules) (e : Part N) (more : List Production) (fresh : IsFresh P parts e more) where
   abbrev wider : List (Part N)

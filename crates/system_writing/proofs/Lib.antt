@@ -6,8 +6,8 @@ pub mod Same
 mod Adding
 pub mod Changing
 pub mod Growing
-mod Ends
-pub mod Rows
+mod EndLaws
+pub mod RowLaws
 pub mod Names
 pub mod Begun
 pub mod Finished

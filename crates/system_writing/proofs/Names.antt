@@ -1,5 +1,5 @@
 -- A set more, by its name; and one more to begin with.
-use Rattle.std.proofs.Common.{◌≡◌, ◌⊎◌, inl, inr, ℕ, ◌+◌, true, List, [], ◌∷◌, ◌++◌, Some, length, refl, sym, ◌∙◌, ap, subst, arith, length-append}
+use Rattle.std.proofs.Common.{◌≡◌, ◌⊎◌, inl, inr, ℕ, zero, suc, ◌+◌, true, List, [], ◌∷◌, ◌++◌, Some, length, refl, sym, ◌∙◌, ap, subst, arith, length-append}
 use Rattle.std.specs.Prelude.{Contains, slice_get}
 use Rattle.std.proofs.lemmas.Option.{slice_get_within}
 use Rattle.std.proofs.lemmas.List.Elements.{Contains-append_left, Contains-append_right, Contains-append_cases}
@@ -22,7 +22,7 @@ use Rattle.system_writing.proofs.Places.{contains_at, at_contains}
 use Rattle.system_writing.proofs.Adding as adding
 use Rattle.system_writing.proofs.Adding.{last_is}
 use Rattle.system_writing.proofs.Growing.{push_cases, at_end, add_set}
-use Rattle.system_writing.proofs.Ends.{moved}
+use Rattle.system_writing.proofs.EndLaws.{moved}
 
 -- numbers of names
 pub at_name : {N : Type 0} (names : List N) (numbers : List ℕ) (n : N) (k : ℕ) → IsAt names numbers n k → Contains names n

@@ -89,12 +89,12 @@ module _ (N : Type 0) (cells : N → Form N → Type 0) (starts says : N → Typ
   same_last : (b : ℕ) (r : ByteRange) (c : Part N) → P (end_part (b ∷ [])) (same_form c) → Holds S D c (Range r)
   same_last b r c row = elim row [ ]
 
-  set_is : {i : N} → is_set (set_part i) ≡ true
+  set_is : (i : N) → is_set (set_part i) ≡ true
   unfolding is_set
-  set_is = refl
+  set_is i = refl
 
   one_rule : (k n m : nt.Nt) (p : Part N) → slice_get parts n.0 ≡ Some p → slice_get parts m.0 ≡ Some p → (c : Part N) (op : Op) → P p (apply_form op c) → Nt n ≡ Nt m
-  one_rule k n m _ e g _ op (PartRow.apply i j _ h) = ap (λ z. Nt (record { 0 = z })) (written.once (set_part i) n.0 m.0 set_is e g)
+  one_rule k n m _ e g _ op (PartRow.apply i j _ h) = ap (λ z. Nt (record { 0 = z })) (written.once (set_part i) n.0 m.0 (set_is i) e g)
 
   pub system_does : Simulates P S D
   system_does = record { same = same; other = other; one = one }

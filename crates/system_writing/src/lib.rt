@@ -2,7 +2,7 @@
 //! and under any names.
 //! Promise: what each call writes is said by `Writes` and its like (specs/Steps), and that a system
 //! which is so written stands for the table (`IsSystem` of specs/Systems) by the laws of
-//! proofs/Begun, Rows and Finished; it has the sets of the table by those of proofs/Same.
+//! proofs/Begun, RowLaws and Finished; it has the sets of the table by those of proofs/Same.
 //! Used by: extraction.
 #![tactic(auto)]
 

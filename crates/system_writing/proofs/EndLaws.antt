@@ -1,5 +1,5 @@
 -- Texts that are put, by what their symbols stand for.
-use Rattle.std.proofs.Common.{◌≡◌, ℕ, ◌+◌, true, List, [], ◌∷◌, ◌++◌, Option, None, Some, length, refl, sym, ◌∙◌, ap, subst, length-append}
+use Rattle.std.proofs.Common.{◌≡◌, inl, inr, ℕ, ◌+◌, true, List, [], ◌∷◌, ◌++◌, Option, None, Some, length, refl, sym, ◌∙◌, ap, subst, length-append}
 use Rattle.std.specs.Prelude.{slice_get}
 use Rattle.numbered_sets.specs.Numbers.{Keeps}
 use Rattle.numbered_sets.proofs.NumberLemmas.{at_front}
@@ -44,7 +44,7 @@ module _ (N : Type 0) (P : Part N → Form (Part N) → Type 0) where
     pub keeps : Keeps before parts
     pub sets : (p : Part N) (n : ℕ) → is_set p ≡ true → slice_get parts n ≡ Some p → slice_get before n ≡ Some p
 
-  pub over_itself : (parts : List (Part N)) (lines : Lines) → length parts ≡ lines.count → IsWritten P parts lines.productions.items lines.rules.items → Over parts lines
+  abbrev pub over_itself : (parts : List (Part N)) (lines : Lines) → length parts ≡ lines.count → IsWritten P parts lines.productions.items lines.rules.items → Over parts lines
   over_itself parts lines all written = record { parts = parts; all = all; written = written; keeps = λ n x h. h; sets = λ p n set h. h }
 
 -- other lines that are the same
@@ -60,6 +60,10 @@ module _ (N : Type 0) (table : N → Form N → Type 0) (starts says : N → Typ
   abbrev HasEnd : List (Part N) → Lines → List ℕ → Symbol → Type 0
   HasEnd before lines w s = (o : Over N P before lines) × Denotes o.parts (end_part w) s
 
+  no_set : (w : List ℕ) → is_set {N = N} (end_part w) ≡ true → ⊥
+  unfolding is_set
+  no_set w h = cc
+
   put_byte : (before : List (Part N)) (old new : Lines) (b c : ℕ) (w : List ℕ) (behind s : Symbol) → PutsByte old new b behind s → HasEnd before old (c ∷ w) behind → HasEnd before new (b ∷ c ∷ w) s
   put_byte before old new b c w behind s puts h =
       let o : Over N P before old = h.0 in
@@ -74,15 +78,11 @@ module _ (N : Type 0) (table : N → Form N → Type 0) (starts says : N → Typ
           keeps = λ n x at. at_front o.parts e n x (o.keeps n x at);
           sets = λ p n set at. elim (push_cases o.parts e n p at) [
             | inl there ↦ o.sets p n set there
-            | inr here ↦ absurd (no_set (subst (λ z. is_set z ≡ true) (sym here.1) set))
+            | inr here ↦ absurd (no_set (b ∷ c ∷ w) (subst (λ z. is_set z ≡ true) (sym here.1) set))
           ];
         },
         subst (λ z. Denotes (o.parts ++ e ∷ []) e z) (sym puts.symbol) (Denotes.listed e (record { 0 = old.count }) there),
       )
-    where
-      no_set : is_set {N = N} (end_part (b ∷ c ∷ w)) ≡ true → ⊥
-      unfolding is_set
-      no_set h = cc
 
   put_bytes : (before : List (Part N)) (old new : Lines) (bytes : List ℕ) (behind s : Symbol) → PutsBytes old new bytes behind s → (c : ℕ) (w : List ℕ) → HasEnd before old (c ∷ w) behind → HasEnd before new (bytes ++ c ∷ w) s
   put_bytes before _ _ _ _ _ (PutsBytes.none lines s) c w h = h

@@ -1,5 +1,5 @@
 -- A row of a set that is written.
-use Rattle.std.proofs.Common.{◌≡◌, ◌⊎◌, inl, inr, ⊤, ℕ, ◌+◌, Bool, true, false, List, [], ◌∷◌, ◌++◌, Option, None, Some, length, refl, sym, ◌∙◌, ap, subst}
+use Rattle.std.proofs.Common.{◌≡◌, ◌⊎◌, inl, inr, ℕ, ◌+◌, Bool, true, false, List, [], ◌∷◌, ◌++◌, Option, None, Some, length, refl, sym, ◌∙◌, ap, subst}
 use Rattle.std.specs.Prelude.{Contains, slice_get}
 use Rattle.std.proofs.lemmas.List.Elements.{Contains-append_left, Contains-append_right, Contains-append_cases}
 use Rattle.string_functions.proofs.Members.{Contains-head}
@@ -27,8 +27,8 @@ use Rattle.system_writing.proofs.Adding as adding
 use Rattle.system_writing.proofs.Adding.{last_is}
 use Rattle.system_writing.proofs.Changing as changing
 use Rattle.system_writing.proofs.Changing.{text_row, before_row, row_of, Asks, is_row}
-use Rattle.system_writing.proofs.Ends as ends
-use Rattle.system_writing.proofs.Ends.{IsEndOf, Over, over_itself, moved, right_of_text, right_before}
+use Rattle.system_writing.proofs.EndLaws as ends
+use Rattle.system_writing.proofs.EndLaws.{IsEndOf, Over, over_itself, moved, right_of_text, right_before}
 
 module _ (N : Type 0) (starts names : List N) (numbers : List ℕ) (closed : Closed) (rows : List (N × Form N)) (old new : Draft) (d : IsDraft rows starts names numbers closed old) (n : N) (k : ℕ) (at : IsAt names numbers n k) (f : Form N) (named : (c : N) → Contains (all_names f) c → Contains names c) where
   abbrev more : List (N × Form N)
@@ -87,18 +87,14 @@ module _ (N : Type 0) (starts names : List N) (numbers : List ℕ) (closed : Clo
   at_k : slice_get d.parts k ≡ Some (set_part n)
   at_k = d.named n k at
 
+  is_one : (m : N) → is_set (set_part m) ≡ true
+  unfolding is_set
+  is_one m = refl
+
   number_is : (a : nt.Nt) → IsAt names numbers n a.0 → a ≡ record { 0 = k }
-  number_is a h = ap (λ z. record { 0 = z }) (d.written.once (set_part n) a.0 k is_one (d.named n a.0 h) at_k)
-    where
-      is_one : is_set (set_part n) ≡ true
-      unfolding is_set
-      is_one = refl
+  number_is a h = ap (λ z. record { 0 = z }) (d.written.once (set_part n) a.0 k (is_one n) (d.named n a.0 h) at_k)
 
   -- lines that are written for one row more
-  is_one : {m : N} → is_set (set_part m) ≡ true
-  unfolding is_set
-  is_one = refl
-
   module _ (between : Lines) (o : Over N P d.parts between) where
     there_k : slice_get o.parts k ≡ Some (set_part n)
     there_k = o.keeps k (set_part n) at_k
@@ -123,18 +119,18 @@ module _ (N : Type 0) (starts names : List N) (numbers : List ℕ) (closed : Clo
       by_production : (lines : Lines) (right : Right) → AddsProduction between lines k right → IsRight o.parts g right → Over N Q d.parts lines
       by_production lines right adds is_right =
           settles lines (moved N Q o.parts lines (between.productions.items ++ (record { left = record { 0 = k }; right = right }) ∷ []) between.rules.items adds.1 adds.2
-          (adding.add_production N P Q stays o.parts between.productions.items between.rules.items o.written (set_part n) g k has_row is_one there_k new_cases right is_right)) adds.0
+          (adding.add_production N P Q stays o.parts between.productions.items between.rules.items o.written (set_part n) g k has_row (is_one n) there_k new_cases right is_right)) adds.0
 
       by_rule : (lines : Lines) (op : Op) (c : N) (j : ℕ) → g ≡ apply_form op (set_part c) → slice_get d.parts j ≡ Some (set_part c) → AddsRule between lines k op j → Over N Q d.parts lines
       by_rule lines op c j form at_j adds =
           settles lines (moved N Q o.parts lines between.productions.items (between.rules.items ++ (record { left = record { 0 = k }; op = op; operand = record { 0 = j } }) ∷ []) adds.1 adds.2
-          (adding.add_rule N P Q stays o.parts between.productions.items between.rules.items o.written (set_part n) g k has_row is_one there_k new_cases op (set_part c) j form (o.keeps j (set_part c) at_j))) adds.0
+          (adding.add_rule N P Q stays o.parts between.productions.items between.rules.items o.written (set_part n) g k has_row (is_one n) there_k new_cases op (set_part c) j form (o.keeps j (set_part c) at_j))) adds.0
 
     -- for a row that is no line
     by_nothing : (lines : Lines) → SameLines between lines → ((p : Part N) (g : Form (Part N)) → Q p g → P p g) → Over N Q d.parts lines
     by_nothing lines same old_rows = settles lines (moved N Q o.parts lines between.productions.items between.rules.items same.1 same.2 (adding.add_nothing N P Q stays o.parts between.productions.items between.rules.items o.written old_rows)) same.0
 
-  over_old : Over N P d.parts old.lines
+  abbrev over_old : Over N P d.parts old.lines
   over_old = over_itself N P d.parts old.lines d.all d.written
 
   -- rows by which sets say yes
@@ -252,7 +248,7 @@ module _ (N : Type 0) (starts names : List N) (numbers : List ℕ) (closed : Clo
       right_is : (b : N) (l : nt.Nt) → same_form b ≡ same_form c → IsAt names numbers b l.0 → same_right j ≡ One (Nt l)
       right_is b l e other =
           let same : b ≡ c = cc in
-          let one = d.written.once (set_part c) j l.0 is_one (d.named c j at_j) (d.named c l.0 (subst (λ z. IsAt names numbers z l.0) same other)) in
+          let one = d.written.once (set_part c) j l.0 (is_one c) (d.named c j at_j) (d.named c l.0 (subst (λ z. IsAt names numbers z l.0) same other)) in
           ap (λ (z : ℕ). same_right z) one
 
   -- texts that wait
@@ -265,28 +261,28 @@ module _ (N : Type 0) (starts names : List N) (numbers : List ℕ) (closed : Clo
     ];
   })
 
+  abbrev waiting_text : List ℕ → ℕ → Waiting
+  waiting_text w j = record { set = k; text = w; other = j }
+
   waits_too : (w : List ℕ) (c : N) (j : ℕ) → f ≡ where_form w c → IsAt names numbers c j → new.waiting.items ≡ old.waiting.items ++ (record { set = k; text = w; other = j }) ∷ [] → AreWaiting more names numbers new.waiting.items
   waits_too w c j is at_j items = subst (λ z. AreWaiting more names numbers z) (sym items) (record {
-    each = λ y h. elim (Contains-append_cases old.waiting.items (x ∷ []) y h) [
+    each = λ y h. elim (Contains-append_cases old.waiting.items (waiting_text w j ∷ []) y h) [
       | inl before ↦ (let r = d.waiting.each y before in (r.0, r.1, r.2, kept (r.0, where_form y.text r.1) r.3))
-      | inr last ↦ subst (λ (z : Waiting). (m : N) × (b : N) × IsOfRow names numbers z m b × Contains more (m, where_form z.text b)) (last_is x y last)
+      | inr last ↦ subst (λ (z : Waiting). (m : N) × (b : N) × IsOfRow names numbers z m b × Contains more (m, where_form z.text b)) (last_is (waiting_text w j) y last)
           (n, c, record { set = at; other = at_j }, subst (λ z. Contains more (n, z)) is here)
     ];
     all = λ m b v has. elim (cases m (where_form v b) has) [
-      | inl before ↦ (let r = d.waiting.all m b v before in (r.0, Contains-append_left old.waiting.items (x ∷ []) r.0 r.1, r.2, r.3))
+      | inl before ↦ (let r = d.waiting.all m b v before in (r.0, Contains-append_left old.waiting.items (waiting_text w j ∷ []) r.0 r.1, r.2, r.3))
       | inr e ↦ found m b v e.0 (e.1 ∙ is)
     ];
   })
     where
-      abbrev x : Waiting
-      x = record { set = k; text = w; other = j }
-
-      found : (m b : N) (v : List ℕ) → m ≡ n → where_form v b ≡ where_form w c → (y : Waiting) × Contains (old.waiting.items ++ x ∷ []) y × (y.text ≡ v) × IsOfRow names numbers y m b
+      found : (m b : N) (v : List ℕ) → m ≡ n → where_form v b ≡ where_form w c → (y : Waiting) × Contains (old.waiting.items ++ waiting_text w j ∷ []) y × (y.text ≡ v) × IsOfRow names numbers y m b
       found m b v e form =
           let texts : v ≡ w = cc in
           let others : b ≡ c = cc in (
-            x,
-            Contains-append_right old.waiting.items (x ∷ []) x (Contains-head x []),
+            waiting_text w j,
+            Contains-append_right old.waiting.items (waiting_text w j ∷ []) (waiting_text w j) (Contains-head (waiting_text w j) []),
             sym texts,
             record { set = subst (λ z. IsAt names numbers z k) (sym e) at; other = subst (λ z. IsAt names numbers z j) (sym others) at_j },
           )
@@ -301,7 +297,7 @@ module _ (N : Type 0) (starts names : List N) (numbers : List ℕ) (closed : Clo
     start = subst (λ z. slice_get o.parts z ≡ Some start_part) (sym same.2) (o.keeps old.start start_part d.start);
     long = d.long;
     named = λ m j h. o.keeps j (set_part m) (d.named m j h);
-    sets = λ m j h. d.sets m j (o.sets (set_part m) j is_one h);
+    sets = λ m j h. d.sets m j (o.sets (set_part m) j (is_one m) h);
     rows_named = rows_named;
     forms_named = forms_named;
     said = said;
