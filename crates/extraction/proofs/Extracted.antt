@@ -65,30 +65,31 @@ says_too R S rows n (Says.yes _ row) = Says.yes n (rows n yes_form row)
 says_too R S rows n (Says.same _ c row said) = Says.same n c (rows n (same_form c) row) (says_too R S rows c said)
 
 -- a system of the rows of names is one of their table
-as_table : (lists : Lists) (starts names : List SetName) (closed : Closed) (s : OpSystem) → IsSystem (λ n f. Contains (rows_of lists names) (n, f)) starts names closed s → IsSystem (table_of lists names) starts names closed s
-as_table lists starts names closed s system = record {
-  parts = system.parts;
-  all = system.all;
-  written = adding.add_nothing SetName (PartRow R (Contains starts) (Says R) closed) (PartRow T (Contains starts) (Says T) closed)
-      (changing.stays SetName R T (Contains starts) (Contains starts) (Says R) (Says T) closed there (λ n h. h) (λ n c w row said. says_too R T there c said))
-      system.parts s.grammar.productions.items s.ops.items system.written
-      (changing.stays SetName T R (Contains starts) (Contains starts) (Says T) (Says R) closed back (λ n h. h) (λ n c w row said. says_too T R back c said));
-  begins = system.begins;
-  named = system.named;
-  sets = system.sets;
-}
-  where
-    abbrev R : SetName → Form SetName → Type 0
-    R n f = Contains (rows_of lists names) (n, f)
+module _ (lists : Lists) (starts names : List SetName) (closed : Closed) (s : OpSystem) where
+  abbrev R : SetName → Form SetName → Type 0
+  R n f = Contains (rows_of lists names) (n, f)
 
-    abbrev T : SetName → Form SetName → Type 0
-    T = table_of lists names
+  abbrev T : SetName → Form SetName → Type 0
+  T = table_of lists names
 
-    there : (n : SetName) (f : Form SetName) → R n f → T n f
-    there n f row = row_named lists names n f row
+  there : (n : SetName) (f : Form SetName) → R n f → T n f
+  there n f row = row_named lists names n f row
 
-    back : (n : SetName) (f : Form SetName) → T n f → R n f
-    back n f row = named_row lists names n f row.0 row.1
+  back : (n : SetName) (f : Form SetName) → T n f → R n f
+  back n f row = named_row lists names n f row.0 row.1
+
+  pub as_table : IsSystem R starts names closed s → IsSystem T starts names closed s
+  as_table system = record {
+    parts = system.parts;
+    all = system.all;
+    written = adding.add_nothing SetName (PartRow R (Contains starts) (Says R) closed) (PartRow T (Contains starts) (Says T) closed)
+        (changing.stays SetName R T (Contains starts) (Contains starts) (Says R) (Says T) closed there (λ n h. h) (λ n c w row said. says_too R T there c said))
+        system.parts s.grammar.productions.items s.ops.items system.written
+        (changing.stays SetName T R (Contains starts) (Contains starts) (Says T) (Says R) closed back (λ n h. h) (λ n c w row said. says_too T R back c said));
+    begins = system.begins;
+    named = system.named;
+    sets = system.sets;
+  }
 
 -- names and numbers before anything is asked for
 pub none_paired : (work : Work) → work.names.keys ≡ [] → work.numbers.items ≡ [] → IsPaired work

@@ -11,8 +11,8 @@ ghost use Rattle.extraction.specs.Bounds.{IsBounded};
 
 use crate::{FlowLister, Plain, extract_by};
 use flow_code::FlowProgram;
-use op_system::OpSystem;
 use given_texts::given_texts;
+use op_system::OpSystem;
 use std::alloc::Global;
 use text_base::NoMemory;
 

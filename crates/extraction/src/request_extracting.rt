@@ -14,8 +14,8 @@ ghost use Rattle.extraction.specs.Bounds.{IsBoundedWith};
 use crate::{FlowLister, Reading, extract_by};
 use cfg_grammar::Grammar;
 use flow_code::FlowProgram;
-use op_system::OpSystem;
 use given_texts::request_texts;
+use op_system::OpSystem;
 use std::alloc::Global;
 use text_base::NoMemory;
 

@@ -1,5 +1,5 @@
 -- What the types of grammars and systems keep: each number is below the count, and no page token stands there.
-use Rattle.std.proofs.Common.{◌≡◌, ℕ, ◌<◌, ◌≤◌, ◌+◌, ◌&&◌, nat_lt, Bool, true, List, [], ◌∷◌, ◌++◌, Option, None, Some, inl, inr, refl, sym, ◌∙◌, ap, subst, arith}
+use Rattle.std.proofs.Common.{◌≡◌, ℕ, ◌<◌, ◌≤◌, ◌&&◌, nat_lt, Bool, true, List, [], ◌∷◌, ◌++◌, Option, Some, refl, sym, ◌∙◌, subst, arith}
 use Rattle.std.specs.Prelude.{Contains, slice_get, slice_index_or}
 use Rattle.std.specs.List.{list_all}
 use Rattle.std.proofs.lemmas.Bool.{lt-ltb, ltb-true, and_parts, and_from}
@@ -10,7 +10,7 @@ use Rattle.std.proofs.lemmas.List.Sums.{list_all-from_AllPass}
 use Rattle.string_functions.proofs.Members.{Contains-head}
 use Rattle.text_base.specs.declared.numbers.Nt as nt
 use Rattle.cfg_grammar.specs.declared.symbol.Symbol.{Symbol}
-use Rattle.cfg_grammar.specs.declared.symbol.Symbol.TheVariants.{Range, Nt}
+use Rattle.cfg_grammar.specs.declared.symbol.Symbol.TheVariants.{Range}
 use Rattle.cfg_grammar.specs.declared.production.Right.{Right}
 use Rattle.cfg_grammar.specs.declared.production.Right.TheVariants.{Empty, One, Two}
 use Rattle.cfg_grammar.specs.declared.production.Production.{Production}
@@ -27,7 +27,7 @@ use Rattle.system_writing.specs.declared.drafts.Draft.{Draft}
 use Rattle.system_writing.specs.Rights.{text_right}
 use Rattle.system_writing.specs.Parts.{Part, set_part}
 use Rattle.system_writing.specs.Written.{Denotes, IsRight}
-use Rattle.system_writing.specs.Steps.{AddsProduction, PutsByte, PutsBytes, PutsText, WritesText, WritesWhere, WritesWaiting, IsBelow}
+use Rattle.system_writing.specs.Steps.{PutsByte, PutsBytes, PutsText, WritesText, WritesWhere, WritesWaiting, IsBelow}
 use Rattle.system_writing.specs.Drafts.{IsAt, IsDraft}
 
 all_from : {X : Type 0} (f : X → Bool) (xs : List X) → ((x : X) → Contains xs x → f x ≡ true) → list_all f xs ≡ true

@@ -1,9 +1,9 @@
 -- Rows of parts, where the table has a row more, or the same ones.
-use Rattle.std.proofs.Common.{◌≡◌, ◌⊎◌, inl, inr, ℕ, List, [], ◌∷◌, Option, Some, None, refl, sym, subst, ap}
+use Rattle.std.proofs.Common.{◌≡◌, ◌⊎◌, inl, inr, ℕ, List, [], ◌∷◌, Option, Some, None, refl, subst, ap}
 use Rattle.std.specs.Prelude.{⊤}
 use Rattle.least_sets.specs.Forms.{Form, text_form, same_form, join_form, before_form, request_form, integer_form, apply_form, yes_form, where_form}
 use Rattle.given_texts.specs.Closed.{Closed}
-use Rattle.system_writing.specs.Parts.{Part, start_part, set_part, end_part, closed_part, PartRow}
+use Rattle.system_writing.specs.Parts.{Part, set_part, end_part, closed_part, PartRow}
 
 -- a text: nothing, or what stands at its end
 unfoldable pub text_row : {N : Type 0} → List ℕ → Form (Part N)

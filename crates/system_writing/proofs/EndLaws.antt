@@ -1,11 +1,10 @@
 -- Texts that are put, by what their symbols stand for.
-use Rattle.std.proofs.Common.{◌≡◌, inl, inr, ℕ, ◌+◌, true, List, [], ◌∷◌, ◌++◌, Option, None, Some, length, refl, sym, ◌∙◌, ap, subst, length-append}
+use Rattle.std.proofs.Common.{◌≡◌, inl, inr, ℕ, ◌+◌, true, List, [], ◌∷◌, ◌++◌, Option, None, Some, length, sym, ◌∙◌, ap, subst, length-append}
 use Rattle.std.specs.Prelude.{slice_get}
 use Rattle.numbered_sets.specs.Numbers.{Keeps}
 use Rattle.numbered_sets.proofs.NumberLemmas.{at_front}
 use Rattle.cfg_grammar.specs.declared.symbol.Symbol.{Symbol}
 use Rattle.cfg_grammar.specs.declared.symbol.Symbol.TheVariants.{Range, Nt}
-use Rattle.cfg_grammar.specs.declared.production.Right.{Right}
 use Rattle.cfg_grammar.specs.declared.production.Right.TheVariants.{Two}
 use Rattle.cfg_grammar.specs.declared.production.Production.{Production}
 use Rattle.op_system.specs.declared.system.OpRule.{OpRule}
@@ -15,7 +14,7 @@ use Rattle.system_writing.specs.declared.lines.Lines.{Lines}
 use Rattle.system_writing.specs.Rights.{text_right, before_right}
 use Rattle.system_writing.specs.Parts.{Part, set_part, end_part, is_set, PartRow}
 use Rattle.system_writing.specs.Written.{Denotes, IsRight, IsWritten}
-use Rattle.system_writing.specs.Steps.{IsByte, PutsByte, PutsBytes, PutsText}
+use Rattle.system_writing.specs.Steps.{PutsByte, PutsBytes, PutsText}
 use Rattle.system_writing.proofs.Changing.{text_row, before_row}
 use Rattle.system_writing.proofs.Growing.{push_cases, at_end, add_end}
 

@@ -3,7 +3,7 @@ pub mod Parts
 pub mod Texts
 pub mod Simulating
 pub mod Same
-mod Adding
+pub mod Adding
 pub mod Changing
 pub mod Growing
 mod EndLaws

@@ -5,17 +5,14 @@ use Rattle.std.proofs.lemmas.Option.{slice_get_within}
 use Rattle.std.proofs.lemmas.List.Elements.{Contains-append_left, Contains-append_right, Contains-append_cases}
 use Rattle.string_functions.proofs.Members.{Contains-head}
 use Rattle.numbered_sets.proofs.NumberLemmas.{at_front}
-use Rattle.text_base.specs.declared.numbers.Nt as nt
 use Rattle.cfg_grammar.specs.declared.symbol.Symbol.TheVariants.{Nt}
-use Rattle.cfg_grammar.specs.declared.production.Production.{Production}
-use Rattle.least_sets.specs.Forms.{Form, same_form, yes_form, where_form}
+use Rattle.least_sets.specs.Forms.{Form, same_form, yes_form}
 use Rattle.given_texts.specs.Closed.{Closed}
 use Rattle.system_writing.specs.declared.waiting.Waiting.{Waiting}
 use Rattle.system_writing.specs.declared.drafts.Draft.{Draft}
-use Rattle.system_writing.specs.Forms.{all_names}
 use Rattle.system_writing.specs.Rights.{same_right}
 use Rattle.system_writing.specs.Parts.{Part, start_part, set_part, closed_part, is_set, PartRow}
-use Rattle.system_writing.specs.Written.{Denotes, IsRight, IsWritten}
+use Rattle.system_writing.specs.Written.{Denotes, IsRight}
 use Rattle.system_writing.specs.Steps.{AddsSet, AddsStart}
 use Rattle.system_writing.specs.Drafts.{IsAt, settled, AreSaid, IsOfRow, AreWaiting, IsDraft}
 use Rattle.system_writing.proofs.Places.{contains_at, at_contains}

@@ -1,5 +1,5 @@
 -- A row of a set that is written.
-use Rattle.std.proofs.Common.{◌≡◌, ◌⊎◌, inl, inr, ℕ, ◌+◌, Bool, true, false, List, [], ◌∷◌, ◌++◌, Option, None, Some, length, refl, sym, ◌∙◌, ap, subst}
+use Rattle.std.proofs.Common.{◌≡◌, ◌⊎◌, inl, inr, ℕ, true, false, List, [], ◌∷◌, ◌++◌, Some, refl, sym, ◌∙◌, ap, subst}
 use Rattle.std.specs.Prelude.{Contains, slice_get}
 use Rattle.std.proofs.lemmas.List.Elements.{Contains-append_left, Contains-append_right, Contains-append_cases}
 use Rattle.string_functions.proofs.Members.{Contains-head}
@@ -20,7 +20,7 @@ use Rattle.system_writing.specs.Forms.{all_names}
 use Rattle.system_writing.specs.Parts.{Part, start_part, set_part, closed_part, is_set, PartRow}
 use Rattle.system_writing.specs.Written.{Denotes, IsRight, IsWritten}
 use Rattle.system_writing.specs.Rights.{text_right, before_right, same_right}
-use Rattle.system_writing.specs.Steps.{SameLines, AddsProduction, AddsRule, WritesText, WritesBefore, SameNumbers, SameBeside, SaysToo, Waits, Writes}
+use Rattle.system_writing.specs.Steps.{SameLines, AddsProduction, AddsRule, WritesText, WritesBefore, SameNumbers, SameBeside, Writes}
 use Rattle.system_writing.specs.Drafts.{IsAt, is_where, settled, AreSaid, IsOfRow, AreWaiting, IsDraft}
 use Rattle.system_writing.proofs.Places.{contains_at}
 use Rattle.system_writing.proofs.Adding as adding
@@ -367,10 +367,10 @@ row_written N starts names numbers closed rows old new d n k at _ _ named (Alike
 row_written N starts names numbers closed rows old new d n k at _ _ named Alike.yes writes =
     draft_of N starts names numbers closed rows old new d n k at yes_form named
     (by_nothing N starts names numbers closed rows old new d n k at yes_form named old.lines (over_old N starts names numbers closed rows old new d n k at yes_form named) new.lines writes.0 (λ p g row.
-        elim (changing.old_or_new N (settled rows) (settled (rows ++ (n, yes_form) ∷ [])) (Contains starts) (λ m. ⊥) closed n yes_form (split N starts names numbers closed rows old new d n k at yes_form named) p g row) [
-          | inl there ↦ there
-          | inr is ↦ absurd (let none = is.1 in cc)
-        ]))
+    elim (changing.old_or_new N (settled rows) (settled (rows ++ (n, yes_form) ∷ [])) (Contains starts) (λ m. ⊥) closed n yes_form (split N starts names numbers closed rows old new d n k at yes_form named) p g row) [
+      | inl there ↦ there
+      | inr is ↦ absurd (let none = is.1 in cc)
+    ]))
     writes.1.2
     (said_yes N starts names numbers closed rows old new d n k at yes_form named refl writes.1.0)
     (waits_as_before N starts names numbers closed rows old new d n k at yes_form named writes.1.1 (λ v c e. cc))
@@ -378,10 +378,10 @@ row_written N starts names numbers closed rows old new d n k at _ _ named (Alike
     draft_of N starts names numbers closed rows old new d n k at (where_form w a) named
     (by_nothing N starts names numbers closed rows old new d n k at (where_form w a) named old.lines (over_old N starts names numbers closed rows old new d n k at (where_form w a) named) new.lines writes.0
     (changing.stays N (settled (rows ++ (n, where_form w a) ∷ [])) (settled rows) (Contains starts) (Contains starts) (λ m. ⊥) (λ m. ⊥) closed (λ m g h.
-        elim (cases N starts names numbers closed rows old new d n k at (where_form w a) named m g h.0) [
-          | inl there ↦ (there, h.1)
-          | inr is ↦ absurd (let no = subst (λ z. is_where z ≡ false) is.1 h.1 in cc)
-        ]) (λ m h. h) (λ m c v h s. s)))
+    elim (cases N starts names numbers closed rows old new d n k at (where_form w a) named m g h.0) [
+      | inl there ↦ (there, h.1)
+      | inr is ↦ absurd (let no = subst (λ z. is_where z ≡ false) is.1 h.1 in cc)
+    ]) (λ m h. h) (λ m c v h s. s)))
     writes.1.2
     (said_as_before N starts names numbers closed rows old new d n k at (where_form w a) named writes.1.1 (λ e. cc) (λ c e. cc))
     (waits_too N starts names numbers closed rows old new d n k at (where_form w a) named w a b refl h writes.1.0)

@@ -1,6 +1,5 @@
 -- How much is written.
-use Rattle.std.proofs.Common.{◌≡◌, ◌≤◌, ℕ, ◌+◌, List, [], ◌∷◌, ◌++◌, length, refl, sym, ◌∙◌, ap, arith, length-append}
-use Rattle.std.specs.List.{sum_by}
+use Rattle.std.proofs.Common.{◌≡◌, ◌≤◌, ℕ, ◌+◌, List, [], ◌∷◌, ◌++◌, length, ◌∙◌, ap, arith, length-append}
 use Rattle.std.proofs.lemmas.List.Sums.{sum_by_push}
 use Rattle.cfg_grammar.specs.declared.symbol.Symbol.{Symbol}
 use Rattle.cfg_grammar.specs.declared.production.Right.{Right}
@@ -13,7 +12,7 @@ use Rattle.system_writing.specs.declared.lines.Lines.{Lines}
 use Rattle.system_writing.specs.declared.waiting.Waiting.{Waiting}
 use Rattle.system_writing.specs.declared.drafts.Draft.{Draft}
 use Rattle.system_writing.specs.Forms.{text_bytes}
-use Rattle.system_writing.specs.Steps.{AddsProduction, AddsRule, PutsByte, PutsBytes, PutsText, WritesText, WritesBefore, SameBeside, Writes, WritesWhere, WritesWaiting, AddsSet, AddsStart, Finishes}
+use Rattle.system_writing.specs.Steps.{AddsProduction, AddsRule, PutsByte, PutsBytes, PutsText, WritesText, WritesBefore, Writes, WritesWhere, WritesWaiting, AddsSet, AddsStart, Finishes}
 use Rattle.system_writing.specs.Sizes.{waiting_bytes, numbers_due, lines_due}
 
 -- so many nonterminals, and so many productions and rules more at most

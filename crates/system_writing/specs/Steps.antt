@@ -5,12 +5,10 @@ use Rattle.text_base.specs.declared.numbers.Nt as nt
 use Rattle.cfg_grammar.specs.declared.symbol.Symbol.{Symbol}
 use Rattle.cfg_grammar.specs.declared.symbol.Symbol.TheVariants.{Range, Nt}
 use Rattle.cfg_grammar.specs.declared.production.Right.{Right}
-use Rattle.cfg_grammar.specs.declared.production.Right.TheVariants.{Empty, One, Two}
-use Rattle.cfg_grammar.specs.declared.production.Production.{Production}
+use Rattle.cfg_grammar.specs.declared.production.Right.TheVariants.{Empty, Two}
 use Rattle.cfg_grammar.specs.Below.{AreBelow}
 use Rattle.cfg_grammar.specs.Tokens.{HaveNoToken}
 use Rattle.op_system.specs.declared.op.Op.{Op}
-use Rattle.op_system.specs.declared.system.OpRule.{OpRule}
 use Rattle.op_system.specs.declared.system.OpSystem.{OpSystem}
 use Rattle.op_system.specs.Rules.{RulesAreBelow}
 use Rattle.useful_nonterminals.specs.Follows.{IsMarked}

@@ -29,12 +29,7 @@ pub(crate) fn add_production(lines: &mut Lines, set: u64, right: Right) -> Resul
 }
 
 /// Puts a rule behind the others.
-pub(crate) fn add_rule(
-    lines: &mut Lines,
-    set: u64,
-    op: Op,
-    operand: u64,
-) -> Result<(), NoMemory>
+pub(crate) fn add_rule(lines: &mut Lines, set: u64, op: Op, operand: u64) -> Result<(), NoMemory>
     ensures { OnOk result (AddsRule lines.old lines.new set op operand) }
 {
     lines.rules.push(OpRule {
