@@ -1,5 +1,11 @@
 mod Examples
-mod Cells
+mod ExampleWords
+mod ValueExamples
+mod ArrayExamples
+mod WorkExamples
+mod PrintExamples
+mod EntryExamples
+mod CycleExamples
 pub mod Exact
 pub mod Returned
 pub mod Handed
