@@ -19,7 +19,7 @@ use Rattle.flow_graph.specs.Tables.{pairs_seen}
 use Rattle.flow_graph.specs.Rows.{points_seen}
 use Rattle.point_listing.specs.Views.{keys_seen}
 use Rattle.point_listing.specs.Links.{links_seen}
-use Rattle.point_listing.specs.Reading.{version_back}
+use Rattle.loose_sets.specs.Uses.{version_back}
 use Rattle.loose_sets.specs.declared.name.Half.{Half}
 use Rattle.loose_sets.specs.declared.name.Aspect.{Aspect}
 use Rattle.loose_sets.specs.declared.name.SetVersion.{SetVersion}

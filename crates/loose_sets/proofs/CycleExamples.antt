@@ -14,6 +14,7 @@ use Rattle.loose_sets.specs.Versions.{PlainVersion, of_definition}
 use Rattle.loose_sets.specs.Uses.{version_back}
 use Rattle.loose_sets.specs.Points.{value_forms, operation_of, input_forms, output_forms}
 use Rattle.loose_sets.specs.Table.{point_of, forms_from, forms_beside, forms, each_use, RowBy, Row}
+use Rattle.loose_sets.proofs.Returned.{none_in, only_one, it_alone}
 use Rattle.loose_sets.specs.declared.name.Half.TheVariants.{Text}
 use Rattle.loose_sets.specs.declared.name.Aspect.{Aspect}
 use Rattle.loose_sets.specs.declared.name.Aspect.TheVariants.{Own}
@@ -33,23 +34,20 @@ fed = script
     (set_point 0 (literal_source (text (codes "a"))) 1 ∷ branch_point 0 2 3 ∷ set_point 0 (apply_source op.Html 0 builtin.Htmlspecialchars []) 1
     ∷ return_point 0 ∷ [])
 
-alone : {A : Type 0} (x : A) → Contains (x ∷ []) x
-alone x = (0, omega arith, refl)
-
 -- the output comes round to the input
 comes_round : Reaches fed (at_point 2) 0 2
 unfolding points_in point_at sets nexts
-comes_round = Reaches.onward (at_point 2) 0 1 2 (branch_point 0 2 3) (Reaches.behind 2 0 1 _ refl refl (alone 1)) refl (λ e. cc) (0, omega arith, refl)
+comes_round = Reaches.onward (at_point 2) 0 1 2 (branch_point 0 2 3) (Reaches.behind 2 0 1 _ refl refl (it_alone 1)) refl (λ e. cc) (0, omega arith, refl)
 
 in_cycle : IsCircular (Row fed) (Output 2) op.Html (Input 2)
 unfolding point_of forms_from value_forms operation_of input_forms points_in point_at names
 in_cycle = IsCircular.cycle (Output 2) (Input 2) op.Html
     (DependsOn.over (Input 2) (Value (Own Text) (Join 2 0)) (Output 2) (same_form (Value (Own Text) (Join 2 0)))
-    (RowBy.listed (Input 2) _ (alone _)) (alone _)
+    (RowBy.listed (Input 2) _ (it_alone _)) (it_alone _)
     (DependsOn.over (Value (Own Text) (Join 2 0)) (Value (Own Text) (Point 2)) (Output 2) (same_form (Value (Own Text) (Point 2)))
-    (RowBy.joined (Own Text) 2 0 (of_definition (at_point 2)) (at_point 2, refl, comes_round)) (alone _)
+    (RowBy.joined (Own Text) 2 0 (of_definition (at_point 2)) (at_point 2, refl, comes_round)) (it_alone _)
     (DependsOn.over (Value (Own Text) (Point 2)) (Output 2) (Output 2) (same_form (Output 2))
-    (RowBy.listed (Value (Own Text) (Point 2)) _ (alone _)) (alone _) (DependsOn.itself (Output 2)))))
+    (RowBy.listed (Value (Own Text) (Point 2)) _ (it_alone _)) (it_alone _) (DependsOn.itself (Output 2)))))
 
 -- `$x = 'a'; $y = htmlspecialchars($x);`
 abbrev straight : PlainFlow
@@ -62,20 +60,13 @@ data Below : SetName → Type 0 where
   read_there : Below (Value (Own Text) (Join 1 0))
   literal : Below (Value (Own Text) (Point 0))
 
-only : {A : Type 0} (a x : A) → Contains (a ∷ []) x → a ≡ x
-only a x (zero, within, e) = e
-only a x (suc n, within, e) = absurd (omega (arith, within))
-
-none_in : {A : Type 0} (x : A) → Contains [] x → ⊥
-none_in x c = let h = c.1 in omega arith
-
 -- one point alone leads to the point 1
 leads : (p : ℕ) (i : PlainPoint) → point_at straight p ≡ Some i → Contains (nexts i) 1 → p ≡ 0
 unfolding points_in point_at nexts
 leads zero i e c = refl
 leads (suc zero) i e c =
     let is : set_point 1 (apply_source op.Html 0 builtin.Htmlspecialchars []) 2 ≡ i = cc in
-    let two : 2 ≡ 1 = only 2 1 (subst (λ (k : PlainPoint). Contains (nexts k) 1) (sym is) c) in
+    let two : 2 ≡ 1 = only_one 2 1 (subst (λ (k : PlainPoint). Contains (nexts k) 1) (sym is) c) in
     absurd cc
 leads (suc (suc zero)) i e c = let is : return_point 1 ≡ i = cc in absurd (none_in 1 (subst (λ (k : PlainPoint). Contains (nexts k) 1) (sym is) c))
 leads (suc (suc (suc p))) i e c = absurd cc
@@ -98,16 +89,16 @@ the_literal _ _ _ (Reaches.onward d x p q i r e n c) is at =
 
 named : (m : SetName) (f : Form SetName) (n : SetName) → f ≡ same_form n → Contains (names f) m → n ≡ m
 unfolding names
-named m f n is has = only n m (subst (λ (g : Form SetName). Contains (names g) m) is has)
+named m f n is has = only_one n m (subst (λ (g : Form SetName). Contains (names g) m) is has)
 
 listed_below : (n m : SetName) (f : Form SetName) → Contains (forms each_use straight n) f → Contains (names f) m → Below n → Below m
 unfolding point_of forms_from forms_beside value_forms operation_of input_forms points_in point_at names
 listed_below _ m f c has input =
-    let is : same_form (Value (Own Text) (Join 1 0)) ≡ f = only (same_form (Value (Own Text) (Join 1 0))) f c in
+    let is : same_form (Value (Own Text) (Join 1 0)) ≡ f = only_one (same_form (Value (Own Text) (Join 1 0))) f c in
     subst Below (named m f (Value (Own Text) (Join 1 0)) (sym is) has) read_there
 listed_below _ m f c has read_there = absurd (none_in f c)
 listed_below _ m f c has literal =
-    let is : text_form (codes "a") ≡ f = only (text_form (codes "a")) f c in
+    let is : text_form (codes "a") ≡ f = only_one (text_form (codes "a")) f c in
     absurd (none_in m (subst (λ (g : Form SetName). Contains (names g) m) (sym is) has))
 
 joined_below : (b : Aspect) (p x : ℕ) (d : Definition) (m : SetName) → Reaches straight d x p

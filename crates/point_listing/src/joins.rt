@@ -2,7 +2,7 @@
 
 ghost use Rattle.std.specs.Prelude.{◌≡◌, map, OnOk};
 ghost use Rattle.ssa_form.specs.Views.{version_seen};
-ghost use Rattle.point_listing.specs.Reading.{version_back};
+ghost use Rattle.loose_sets.specs.Uses.{version_back};
 ghost use Rattle.loose_sets.specs.Members.{link_forms};
 ghost use Rattle.point_listing.specs.Links.{links_seen};
 ghost use Rattle.point_listing.specs.Places.{Adds};
