@@ -1,5 +1,5 @@
 -- An operation in a cycle, one in none, and `Any`, which is always taken to be in one.
-use Rattle.std.proofs.Common.{◌≡◌, ⊥, ℕ, zero, suc, List, [], ◌∷◌, Some, refl, sym, ap, ◌∙◌, subst, arith}
+use Rattle.std.proofs.Common.{◌≡◌, ℕ, zero, suc, List, [], ◌∷◌, Some, refl, sym, ap, ◌∙◌, subst, arith}
 use Rattle.std.specs.Prelude.{codes, Contains, Option, None}
 use Rattle.plain_values.specs.Plain.{text}
 use Rattle.builtin_meaning.specs.declared.builtin.Builtin.TheVariants as builtin
@@ -66,7 +66,7 @@ unfolding points_in point_at nexts
 leads zero i e c = refl
 leads (suc zero) i e c =
     let is : set_point 1 (apply_source op.Html 0 builtin.Htmlspecialchars []) 2 ≡ i = cc in
-    let two : 2 ≡ 1 = only_one 2 1 (subst (λ (k : PlainPoint). Contains (nexts k) 1) (sym is) c) in
+    let two : ◌≡◌ {A = ℕ} 2 1 = only_one 2 1 (subst (λ (k : PlainPoint). Contains (nexts k) 1) (sym is) c) in
     absurd cc
 leads (suc (suc zero)) i e c = let is : return_point 1 ≡ i = cc in absurd (none_in 1 (subst (λ (k : PlainPoint). Contains (nexts k) 1) (sym is) c))
 leads (suc (suc (suc p))) i e c = absurd cc

@@ -1,5 +1,5 @@
 -- Words of the examples of the table. Told apart are `'t'` and 5, in this order; the slots are read at the point 9.
-use Rattle.std.specs.Prelude.{◌≡◌, ℕ, ⊤, ⊥, pos, List, [], ◌∷◌, Option, codes}
+use Rattle.std.specs.Prelude.{◌≡◌, ℕ, ⊤, pos, List, [], ◌∷◌, Option, codes}
 use Rattle.plain_values.specs.Plain.{PlainKey, int_key, text_key}
 use Rattle.flow_code.specs.Points.{PlainKeyRef, int_ref, text_ref, read_ref, PlainSource, put_source, PlainPoint}
 use Rattle.least_sets.specs.Forms.{Form, same_form}
