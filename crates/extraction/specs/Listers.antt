@@ -11,6 +11,7 @@ use Rattle.loose_sets.specs.declared.name.SetName.TheVariants.{Out}
 
 -- the forms of each name that may be asked for are exactly the rows of the set; and it may be asked what is printed from the entry of the
 -- first function on
-pub record IsFlowLister (flow : PlainFlow) (linked : Linked) (at : At) (asks : SetName → Type 0) (lists : SetName → List (Form SetName)) : Type 0 where
+pub record IsFlowLister (flow : PlainFlow) (linked : Linked) (at : At) (asks : SetName → Type 0)
+    (lists : SetName → List (Form SetName)) : Type 0 where
   pub exact : (n : SetName) → asks n → (f : Form SetName) → Contains (lists n) f ↔ RowBy at linked flow n f
   pub start : (main : PlainFlowFunction) (l : Leaving) → function_at flow 0 ≡ Some main → asks (Out main.entry_of l)

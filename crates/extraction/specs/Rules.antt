@@ -17,8 +17,8 @@ use Rattle.op_bytes.specs.Cycles.{IsInCycle}
 use Rattle.extraction.specs.Texts.{SystemText}
 
 -- a nonterminal of the system has exactly the texts of a loose set, by this reading
-abbrev pub HasTexts : (Op → List ℕ → List ℕ → Type 0) → (List ℕ → Type 0) → ((ℕ → Type 0) → List ℕ → Type 0) → PlainFlow → OpSystem → SetName
-    → nt.Nt → Type 0
+abbrev pub HasTexts : (Op → List ℕ → List ℕ → Type 0) → (List ℕ → Type 0) → ((ℕ → Type 0) → List ℕ → Type 0) → PlainFlow → OpSystem
+    → SetName → nt.Nt → Type 0
 HasTexts outputs request circular flow s name a = (w : List ℕ)
     → SystemText outputs circular s.grammar.productions.items s.ops.items (Nt a) w ↔ IsIn outputs request circular flow name w
 

@@ -1,18 +1,18 @@
 -- An operation in a cycle, one in none, and `Any`, which is always taken to be in one.
 use Rattle.std.proofs.Common.{◌≡◌, ℕ, zero, suc, List, [], ◌∷◌, Some, refl, sym, ap, ◌∙◌, subst, arith}
-use Rattle.std.specs.Prelude.{codes, Contains, Option, None}
+use Rattle.std.specs.Prelude.{codes, Contains}
 use Rattle.plain_values.specs.Plain.{text}
 use Rattle.builtin_meaning.specs.declared.builtin.Builtin.TheVariants as builtin
 use Rattle.op_system.specs.declared.op.Op.{Op}
 use Rattle.op_system.specs.declared.op.Op.TheVariants as op
 use Rattle.flow_code.specs.Points.{PlainPoint, set_point, branch_point, return_point, literal_source, apply_source, PlainFlowFunction, PlainFlow, points_in, point_at, function_at}
 use Rattle.flow_code.specs.Lawful.{sets, nexts}
-use Rattle.least_sets.specs.Forms.{Form, text_form, same_form, apply_form, names}
+use Rattle.least_sets.specs.Forms.{Form, text_form, same_form, names}
 use Rattle.least_sets.specs.Sets.{DependsOn, IsCircular}
 use Rattle.loose_sets.specs.Reaching.{Definition, at_point, Reaches}
 use Rattle.loose_sets.specs.Versions.{PlainVersion, of_definition}
 use Rattle.loose_sets.specs.Uses.{version_back}
-use Rattle.loose_sets.specs.Points.{value_forms, operation_of, input_forms, output_forms}
+use Rattle.loose_sets.specs.Points.{value_forms, operation_of, input_forms}
 use Rattle.loose_sets.specs.Table.{point_of, forms_from, forms_beside, forms, each_use, RowBy, Row}
 use Rattle.loose_sets.proofs.Returned.{none_in, only_one, it_alone}
 use Rattle.loose_sets.specs.declared.name.Half.TheVariants.{Text}
