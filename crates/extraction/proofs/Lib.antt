@@ -1,4 +1,4 @@
-mod Readings
+mod GivenLemmas
 mod EndLemmas
 mod Pages
 mod Operations

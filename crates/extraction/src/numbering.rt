@@ -7,18 +7,19 @@ ghost use Rattle.extraction.specs.Steps.{IsPaired, IsNameNumbered, IsFormNumbere
 
 use crate::work::Work;
 use loose_sets::SetName;
-use numbered_sets::number;
+use numbered_sets::{count, number};
 use point_listing::NamedForm;
 use system_writing::RowForm;
 use text_base::NoMemory;
 
 /// The nonterminal of a name; a new name is put behind the others, with a new one.
+#[tactic(none)]
 pub fn number_name(work: &mut Work, name: SetName) -> Result<u64, NoMemory>
     requires { IsPaired work.old }
     ensures { IfOk result (IsNameNumbered work.old work.new name) }
 {
-    let (place, is_new) = number(&mut work.names, name)?;
-    if is_new {
+    let (place, _) = number(&mut work.names, name)?;
+    if count(&work.names) > work.numbers.len() {
         let set = work.draft.add_set()?;
         work.numbers.push(set)?;
         return Ok(set);

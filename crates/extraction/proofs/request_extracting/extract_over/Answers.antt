@@ -5,7 +5,7 @@ use Rattle.given_texts.specs.Closed.{HasText}
 use Rattle.given_texts.specs.Given.{closed_of}
 use Rattle.extraction.specs.ListedMade.{IsMadeOver}
 use Rattle.extraction.proofs.Bounded.{is_bounded_over}
-use Rattle.extraction.proofs.Readings.{closed_by, made_with}
+use Rattle.extraction.proofs.GivenLemmas.{closed_by, made_with}
 use Rattle.extraction.proofs.request_extracting.extract_over.Goals as goal
 
 pub extract_by-requires-clause-closed : goal.extract_by-requires-clause-closed
