@@ -130,7 +130,7 @@ pub begins_taken : (old mid one new : Work) (all : List SetName) (i : ℕ) (d n 
     → Begins old new (take (i + 1) all)
 begins_taken old mid one new all i d n k within so is numbered same_names same_numbers adds =
     let next : i + 1 ≡ suc i = omega arith in
-    let longer : take (i + 1) all ≡ take i all ++ n ∷ [] = ap (λ (m : ℕ). take m all) next ∙ take-suc i all d within ∙ ap (λ (m : SetName). take i all ++ m ∷ []) is in
+    let longer : take (i + 1) all ≡ take i all ++ n ∷ [] = ap (λ (m : ℕ). take m all) next ∙ take-suc all i d within ∙ ap (λ (m : SetName). take i all ++ m ∷ []) is in
     subst (λ (ns : List SetName). Begins old new ns) (sym longer) (begins_more old mid one new (take i all) n k so numbered same_names same_numbers adds)
 
 -- the first of names that are kept stay the first
@@ -147,7 +147,7 @@ taken_more old new t name keeps here =
     let within : t < length old = slice_get_within old t name here in
     let there : slice_get new t ≡ Some name = keeps t name here in
     let next : t + 1 ≡ suc t = omega arith in
-    ap (λ (n : ℕ). take n new) next ∙ take-suc t new name (slice_get_within new t name there) ∙ ap (λ (z : SetName). take t new ++ z ∷ []) (get_or_from_slice_get new t name name there)
+    ap (λ (n : ℕ). take n new) next ∙ take-suc new t name (slice_get_within new t name there) ∙ ap (λ (z : SetName). take t new ++ z ∷ []) (get_or_from_slice_get new t name name there)
     ∙ ap (λ (ns : List SetName). ns ++ name ∷ []) (first_kept old new t (omega (arith, within)) keeps)
 
 rows_push : (lists : Lists) (names : List SetName) (name : SetName) → rows_of lists (names ++ name ∷ []) ≡ rows_of lists names ++ rows_of_name name (lists name)

@@ -20,7 +20,6 @@ use std::alloc::Global;
 use text_base::NoMemory;
 
 /// Has the system begin with the sets of these names.
-#[tactic(none)]
 pub fn begin_with(work: &mut Work, starts: &[SetName]) -> Result<(), NoMemory>
     requires { IsPaired work.old }
     ensures { OnOk result (Begins work.old work.new starts.now) }
@@ -84,7 +83,6 @@ fn take_up<L: Lister>(
 
 /// Writes the rows of all names, and of those that they name, and so on, which are put behind them.
 /// Linear in the rows, beside what the lister takes for them.
-#[tactic(none)]
 pub fn list_all<L: Lister>(alloc: Global, lister: &L, work: &mut Work) -> Result<(), NoMemory>
     requires asked { (n : plain.SetName) → Contains work.old.names.keys n → L.asks lister.now n }
     requires paired { IsPaired work.old }

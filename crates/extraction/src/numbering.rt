@@ -13,7 +13,6 @@ use system_writing::RowForm;
 use text_base::NoMemory;
 
 /// The nonterminal of a name; a new name is put behind the others, with a new one.
-#[tactic(none)]
 pub fn number_name(work: &mut Work, name: SetName) -> Result<u64, NoMemory>
     requires { IsPaired work.old }
     ensures { IfOk result (IsNameNumbered work.old work.new name) }

@@ -1,8 +1,8 @@
 use Rattle.extraction.proofs.NumberLemmas.{for_form, text_numbered, request_numbered, integer_numbered, yes_numbered, same_numbered, before_numbered, apply_numbered, where_numbered, join_numbered}
 use Rattle.extraction.proofs.numbering.number_form.Goals as goal
 
-pub number_name-2-requires : goal.number_name-2-requires
-number_name-2-requires c = c.in_ok-before-in-Join.ensures.adds.paired
+pub number_name-requires-in-Join-2 : goal.number_name-requires-in-Join-2
+number_name-requires-in-Join-2 c = c.in_ok-before-in-Join.ensures.adds.paired
 
 pub returns-in-Text : goal.returns-in-Text
 returns-in-Text c = for_form _ _ _ _ _ c.in-Text.is (text_numbered _ c.in-Text.text c.requires)
