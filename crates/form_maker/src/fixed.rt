@@ -6,6 +6,7 @@ ghost use Rattle.dtd_model.specs.References.{is_reference};
 ghost use Rattle.dtd_model.specs.Table.{kind_of};
 ghost use Rattle.dtd_model.specs.TableOf.{table_of};
 ghost use Rattle.page_forms.specs.Tags as spec;
+ghost use Rattle.page_model.specs.Attributes as attributes;
 ghost use Rattle.page_model.specs.Parts as parts;
 ghost use Rattle.form_maker.specs.Kept.{fixed_form};
 ghost use Rattle.form_maker.specs.Making.{making_of, pushed};
@@ -56,6 +57,15 @@ fn is_value(indexed: &IndexedDtd<'_>, quote: u8, cs: &[char]) -> bool
     is_written(quote, cs) && refers_to_known(indexed, cs)
 }
 
+/// Whether these are a value of a type between such quotes.
+fn is_value_of(indexed: &IndexedDtd<'_>, kind: &AttrKind, quote: u8, cs: &[char]) -> bool
+    ensures { result
+        ≡ (spec.is_value (table_of indexed.now.dtd.now).entities quote cs.now
+        && attributes.has_kind (kind_of kind.now) cs.now) }
+{
+    is_value(indexed, quote, cs) && has_kind(kind, cs)
+}
+
 /// Whether the bytes are those of a value of a type between such quotes.
 fn is_fixed_value(
     alloc: Global,
@@ -72,7 +82,7 @@ fn is_fixed_value(
         Err(_) => Ok(false),
         Ok(text) => {
             let cs = characters(alloc, text)?;
-            Ok(is_value(indexed, quote, cs.as_slice()) && has_kind(kind, cs.as_slice()))
+            Ok(is_value_of(indexed, kind, quote, cs.as_slice()))
         }
     }
 }

@@ -73,7 +73,7 @@ impl Maker {
     }
 
     /// Keeps the forms of the pieces that no element changes.
-    fn simple(&mut self, rule: DoctypeRule) -> Result<(), NoMemory>
+    pub fn simple(&mut self, rule: DoctypeRule) -> Result<(), NoMemory>
         ensures { OnOk result
             (making_of self.new ≡ keeping (simple_forms rule) (making_of self.old)) }
     {

@@ -94,6 +94,17 @@ impl Maker {
         Ok(())
     }
 
+    /// The name of one of these entities, or of one that needs no declaration.
+    pub fn entity(&mut self, entities: &[Bytes]) -> Result<(), NoMemory>
+        ensures { OnOk result
+            (making_of self.new ≡ pushed (spec.entity_form entities.now) (making_of self.old)) }
+    {
+        self.known_entities()?;
+        self.one_of(WordTest::Name, entities)?;
+        self.either()?;
+        Ok(())
+    }
+
     /// References to characters, to these entities and to those that need no declaration.
     #[tactic(auto, unfolding(page_forms::specs::References::reference_form))]
     pub fn reference(&mut self, entities: &[Bytes]) -> Result<(), NoMemory>
@@ -108,9 +119,7 @@ impl Maker {
         self.chain()?;
         self.either()?;
         self.chain()?;
-        self.known_entities()?;
-        self.one_of(WordTest::Name, entities)?;
-        self.either()?;
+        self.entity(entities)?;
         self.either()?;
         self.word(b";")?;
         self.chain()?;
