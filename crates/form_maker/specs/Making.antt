@@ -1,5 +1,5 @@
 -- What a maker holds, as expressions, and what its calls make of it.
-use Rattle.std.specs.Prelude.{ℕ, Bool, true, false, List, [], ◌∷◌, ◌++◌, map, get_or}
+use Rattle.std.specs.Prelude.{◌≡◌, ℕ, Bool, true, false, List, [], ◌∷◌, ◌++◌, map, get_or}
 use Rattle.derivatives.specs.Expressions.{Expr, nothing, empty, among, none, member}
 use Rattle.derivatives.specs.Derivatives.{chain_of, either_of}
 use Rattle.derivatives.specs.Standing.{expr_at}
@@ -37,6 +37,10 @@ popped m = record { stack = others_of m.stack; kept = m.kept }
 -- the last one changed
 abbrev pub changed : (Expr → Expr) → Making → Making
 changed f m = pushed (f (last_of m.stack)) (popped m)
+
+-- where there is a last one, it is changed so
+abbrev pub Changes : (Expr → Expr) → Making → Making → Type 0
+Changes f old new = (e : Expr) (m : Making) → old ≡ pushed e m → new ≡ pushed (f e) m
 
 -- one in place of the last two, the one before the last first
 abbrev pub joined : (Expr → Expr → Expr) → Making → Making

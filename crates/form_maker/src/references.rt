@@ -5,7 +5,7 @@ ghost use Rattle.std.specs.List.{list_all};
 ghost use Rattle.xml_text.specs.Names as names;
 ghost use Rattle.page_forms.specs.References as spec;
 ghost use Rattle.page_forms.specs.Words.{one_of_words};
-ghost use Rattle.form_maker.specs.Making.{changed, making_of, pushed};
+ghost use Rattle.form_maker.specs.Making.{Changes, making_of, pushed};
 ghost use Rattle.form_maker.specs.Words.{word_test, words_before};
 ghost use Rattle.dtd_model.specs.References.{known_entities};
 
@@ -55,8 +55,8 @@ impl Maker {
     /// One of the words that pass a test, or the last expression.
     fn words_before(&mut self, test: WordTest, words: &[Bytes]) -> Result<(), NoMemory>
         ensures { OnOk result
-            (making_of self.new
-            ≡ changed (words_before (word_test test) words.now) (making_of self.old)) }
+            (Changes (words_before (word_test test) words.now) (making_of self.old)
+            (making_of self.new)) }
     {
         let mut left = words;
         while let Some((last, others)) = left.split_last() {

@@ -86,9 +86,11 @@ impl Maker {
             tag.now (map declared_of rules.now.items))) (making_of self.old)) }
     {
         self.empty()?;
-        for rule in rules.iter().rev() {
-            self.attribute(indexed, rule)?;
-            self.member(must_stand(tag, rule))?;
+        let mut left = rules.as_slice();
+        while let Some((last, others)) = left.split_last() {
+            self.attribute(indexed, last)?;
+            self.member(must_stand(tag, last))?;
+            left = others;
         }
         Ok(())
     }

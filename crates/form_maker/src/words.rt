@@ -4,7 +4,7 @@ ghost use Rattle.std.specs.Prelude.{◌≡◌, ◌≤◌, ℕ, None, Some, OnOk}
 ghost use Rattle.derivatives.specs.Derivatives.{either_of};
 ghost use Rattle.derivatives.specs.Expressions.{range};
 ghost use Rattle.page_forms.specs.Words as words;
-ghost use Rattle.form_maker.specs.Making.{changed, making_of, pushed};
+ghost use Rattle.form_maker.specs.Making.{Changes, changed, making_of, pushed};
 ghost use Rattle.form_maker.specs.Words as spec;
 
 use crate::maker::Maker;
@@ -22,7 +22,7 @@ impl Maker {
     /// Bytes in their order, and the last expression behind them.
     pub fn word_before(&mut self, word: &[u8]) -> Result<(), NoMemory>
         ensures { OnOk result
-            (making_of self.new ≡ changed (spec.word_before word.now) (making_of self.old)) }
+            (Changes (spec.word_before word.now) (making_of self.old) (making_of self.new)) }
     {
         let mut left = word;
         while let Some((last, others)) = left.split_last() {
@@ -54,6 +54,7 @@ impl Maker {
     }
 
     /// A byte of ASCII that passes a test.
+    #[tactic(auto, unfolding(page_forms::specs::Words::ascii))]
     pub fn ascii<T: ByteTest>(&mut self, test: &T) -> Result<(), NoMemory>
         ensures { OnOk result
             (making_of self.new ≡ pushed (words.ascii (T.passing test.now)) (making_of self.old)) }
@@ -73,8 +74,8 @@ impl Maker {
     ) -> Result<(), NoMemory>
         requires { (byte : ℕ) → last ≡ Some byte → end ≤ byte }
         ensures { OnOk result
-            (making_of self.new
-            ≡ changed (words.ranges_below (T.passing test.now) end last) (making_of self.old)) }
+            (Changes (words.ranges_below (T.passing test.now) end last) (making_of self.old)
+            (making_of self.new)) }
     {
         if end == 0 {
             self.range_before(0, last)?;
@@ -94,7 +95,7 @@ impl Maker {
     fn range_before(&mut self, first: u8, last: Option<u8>) -> Result<(), NoMemory>
         requires { (byte : ℕ) → last ≡ Some byte → first ≤ byte }
         ensures { OnOk result
-            (making_of self.new ≡ changed (spec.range_before first last) (making_of self.old)) }
+            (Changes (spec.range_before first last) (making_of self.old) (making_of self.new)) }
     {
         if let Some(hi) = last {
             self.range(ByteRange { lo: first, hi })?;
