@@ -1,0 +1,3 @@
+pub mod Bytes
+mod Leads
+pub mod Scanning

@@ -1,0 +1,2 @@
+pub mod CoarseForms
+pub mod Laws
