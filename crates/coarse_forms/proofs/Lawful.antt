@@ -4,54 +4,41 @@ use Rattle.std.specs.Prelude.{◌==◌, ◌||◌, ◌&&◌, not, codes, nat_lt}
 use Rattle.std.specs.Char.{to_ascii_lowercase}
 use Rattle.std.specs.List.{list_all}
 use Rattle.std.specs.Str.{encode_utf8_all}
-use Rattle.std.proofs.lemmas.Bool.{and_parts, and_from, or_left, or_right, not_from_false, or_from}
+use Rattle.std.proofs.lemmas.Bool.{and_parts, and_from, or_left, or_right, not_from_false, not-true, ne_eqb}
 use Rattle.std.proofs.lemmas.Bool.Decides.{nat_tests}
 use Rattle.xml_text.specs.Characters.{is_blank, is_character}
-use Rattle.xml_text.specs.Names.{begins_name, in_name, is_name}
+use Rattle.xml_text.specs.Names.{begins_name, in_name, is_name, in_public_identifier}
 use Rattle.dtd_model.specs.declared.dtd.DoctypeRule.{DoctypeRule}
 use Rattle.dtd_model.specs.declared.dtd.DoctypeRule.TheVariants.{Strict, Free}
 use Rattle.derivatives.specs.Expressions.{Expr, empty, range, star, Matches}
 use Rattle.derivatives.specs.Derivatives.{chain_of, either_of, may_end}
 use Rattle.page_model.specs.Parts.{is_plain}
-use Rattle.page_forms.specs.Declarations.{version_form, encoding_form, standalone_form, declaration_form}
+use Rattle.page_forms.specs.Declarations.{any_case, version_form, encoding_form, standalone_form, declaration_form}
 use Rattle.page_forms.specs.Doctypes.{system_literal, public_literal, strict_literal, public_form, system_form, identifier_form, doctype_form}
-use Rattle.page_forms.specs.Quotes.{quoted}
+use Rattle.page_forms.specs.Quotes.{quoted, attribute_of}
 use Rattle.page_forms.specs.Remarks.{comment_form, run_then, times, text_up_to, section_form, is_letter, not_behind, target_form, instruction_form}
-use Rattle.page_forms.specs.Words as words
 use Rattle.page_forms.specs.Words.{word, ascii, character_of, other_than, blanks, gap, name_form}
 use Rattle.page_forms.proofs.NameForms.{begins_in, spells_name}
 use Rattle.page_forms.proofs.OneCharacter.{spells_character}
+use Rattle.page_forms.proofs.Spelling.{ascii_bytes}
+use Rattle.page_forms.proofs.WordForms.{name_ascii}
 use Rattle.coarse_forms.specs.CoarseForms.{byte_of, byte_but, text_byte, coarse_reference, parts_of_tag, value_bytes, coarse_tag, coarse_end_tag, coarse_comment, bytes_then, bytes_up_to, coarse_section, coarse_instruction, coarse_doctype, coarse_form}
-use Rattle.coarse_forms.proofs.Free.{is_none_of, avoids}
-use Rattle.coarse_forms.proofs.Within.{Within, own, further, in_chain, in_left, in_right, both, to_left, to_right, of_word, word_apart, once, never, stars, more, before, none_before, in_ascii, Passes, free, free_some, quotes}
+use Rattle.coarse_forms.proofs.Within.{Within, own, further, in_chain, in_left, in_right, both, to_left, to_right, of_word, word_apart, once, never, stars, more, before, none_before, in_ascii, ascii_in, are_in, word_in, character_in, characters_in, quotes}
 
--- One byte that is left out, and two.
+-- what is left of a test of a character
+second : (t c : Bool) → (t && c) ≡ true → c ≡ true
+second t c h = (and_parts t c h).1
 
-but_one : (c : ℕ) → Passes (c ∷ []) (λ d. not (d == c))
-but_one c b h = (and_parts (not (b == c)) true h).0
-
-but_two : (c d : ℕ) → Passes (c ∷ d ∷ []) (λ b. not (b == c || b == d))
-but_two c d b h =
-    let p = and_parts (not (b == c)) (not (b == d) && true) h in
-    let q = and_parts (not (b == d)) true p.1 in
-    join (b == c) (b == d) p.0 q.0
-  where
-    join : (x y : Bool) → not x ≡ true → not y ≡ true → not (x || y) ≡ true
-    join true y e f = e
-    join false y e f = f
-
-first_of_two : (c d : ℕ) → Passes (c ∷ d ∷ []) (λ b. not (b == c))
-first_of_two c d b h = (and_parts (not (b == c)) (not (b == d) && true) h).0
+named : (w : List ℕ) → is_name w ≡ true → Matches name_form w
+named w h = subst (λ (z : List ℕ). Matches name_form z) (ascii_bytes w (name_ascii w h)) (spells_name.made w h)
 
 -- Comments.
 
 other_dash : Within (other_than 45) (star (byte_but 45))
-unfolding words.ascii words.beyond_ascii
-other_dash = free (other_than 45) (45 ∷ []) (λ d. not (d == 45)) refl (but_one 45)
+other_dash = characters_in (λ d. not (d == 45)) (λ d. not (d == 45)) (λ c h. second (is_character c) (not (c == 45)) h)
 
 some_dash : Within (other_than 45) (chain_of (byte_but 45) (star (byte_but 45)))
-unfolding words.ascii words.beyond_ascii
-some_dash = free_some (other_than 45) (45 ∷ []) (λ d. not (d == 45)) (λ d. not (d == 45)) refl refl (but_one 45) (but_one 45)
+some_dash = character_in (λ d. not (d == 45)) (λ d. not (d == 45)) (λ d. not (d == 45)) (λ c h. second (is_character c) (not (c == 45)) h)
 
 abbrev Inside : Expr
 Inside = either_of (byte_but 45) (chain_of (range 45 45) (byte_but 45))
@@ -102,23 +89,15 @@ up_to_within c k s =
     (stars (further (runs c (suc k) s) (more (bytes_then c (suc k)) (star (byte_but c)) (once (bytes_then c (suc k))) (others_then c k))))
     (own (chain_of (word (times c (suc k))) (chain_of (star (range c c)) (range 62 62))))
 
-bracket_seen : Seen 93
-unfolding words.ascii words.beyond_ascii
-bracket_seen = record {
-  others = free_some (other_than 93) (93 ∷ []) (λ d. not (d == 93)) (λ d. not (d == 93)) refl refl (but_one 93) (but_one 93);
-  last = free_some (character_of (λ d. not (d == 93 || d == 62))) (93 ∷ 62 ∷ []) (λ d. not (d == 93 || d == 62)) (λ d. not (d == 93)) refl refl (but_two 93 62) (first_of_two 93 62);
-}
-
-question_seen : Seen 63
-unfolding words.ascii words.beyond_ascii
-question_seen = record {
-  others = free_some (other_than 63) (63 ∷ []) (λ d. not (d == 63)) (λ d. not (d == 63)) refl refl (but_one 63) (but_one 63);
-  last = free_some (character_of (λ d. not (d == 63 || d == 62))) (63 ∷ 62 ∷ []) (λ d. not (d == 63 || d == 62)) (λ d. not (d == 63)) refl refl (but_two 63 62) (first_of_two 63 62);
+seen : (c : ℕ) → Seen c
+seen c = record {
+  others = character_in (λ d. not (d == c)) (λ d. not (d == c)) (λ d. not (d == c)) (λ d h. second (is_character d) (not (d == c)) h);
+  last = character_in (λ d. not (d == c || d == 62)) (λ d. not (d == c || d == 62)) (λ d. not (d == c)) (λ d h. second (is_character d) (not (d == c || d == 62)) h);
 }
 
 pub sections_within : Within section_form coarse_section
 unfolding section_form
-sections_within = in_chain (word (codes "<![CDATA[")) (text_up_to 93 2) (word (codes "<![CDATA[")) (bytes_up_to 93 2) (own (word (codes "<![CDATA["))) (up_to_within 93 1 bracket_seen)
+sections_within = in_chain (word (codes "<![CDATA[")) (text_up_to 93 2) (word (codes "<![CDATA[")) (bytes_up_to 93 2) (own (word (codes "<![CDATA["))) (up_to_within 93 1 (seen 93))
 
 -- Instructions.
 
@@ -158,13 +137,13 @@ instructions_within =
     in_chain (word (codes "<?")) (chain_of target_form (either_of (word (codes "?>")) (chain_of (ascii is_blank) (text_up_to 63 1)))) (word (codes "<?")) (chain_of name_form Ends) (own (word (codes "<?")))
     (in_chain target_form (either_of (word (codes "?>")) (chain_of (ascii is_blank) (text_up_to 63 1))) name_form Ends targets_within
     (both (word (codes "?>")) (chain_of (ascii is_blank) (text_up_to 63 1)) (in_left (word (codes "?>")) (chain_of (ascii is_blank) (bytes_up_to 63 1)) (own (word (codes "?>"))))
-    (in_right (word (codes "?>")) (chain_of (ascii is_blank) (bytes_up_to 63 1)) (in_chain (ascii is_blank) (text_up_to 63 1) (ascii is_blank) (bytes_up_to 63 1) (own (ascii is_blank)) (up_to_within 63 0 question_seen)))))
+    (in_right (word (codes "?>")) (chain_of (ascii is_blank) (bytes_up_to 63 1)) (in_chain (ascii is_blank) (text_up_to 63 1) (ascii is_blank) (bytes_up_to 63 1) (own (ascii is_blank)) (up_to_within 63 0 (seen 63))))))
 
 -- The XML declaration.
 
--- texts without `?`
-no_question : (e : Expr) → avoids (63 ∷ []) e ≡ true → Within e (star (bytes_then 63 1))
-no_question e h = further (free e (63 ∷ []) (λ d. not (d == 63)) h (but_one 63)) (others_then 63 0)
+-- bytes but `?` stand anywhere before the mark
+no_question : {e : Expr} → Within e (star (byte_but 63)) → Within e (star (bytes_then 63 1))
+no_question f = further f (others_then 63 0)
 
 closed : Within (word (codes "?>")) (bytes_up_to 63 1)
 closed =
@@ -181,26 +160,78 @@ Version = chain_of blanks (chain_of (word (codes "version")) (chain_of blanks (c
 version_first : Within version_form (chain_of (ascii is_blank) Version)
 version_first = to_right (ascii is_blank) blanks (chain_of (word (codes "version")) (chain_of blanks (chain_of (word (codes "=")) (chain_of blanks (quoted (λ q. word (codes "1.0")))))))
 
-version_free : avoids (63 ∷ []) Version ≡ true
-unfolding words.ascii
-version_free = refl
+-- a byte is no `?`
+abbrev no_ask : ℕ → Bool
+no_ask d = not (d == 63)
 
-optional_free : avoids (63 ∷ []) Optional ≡ true
-unfolding words.ascii
-optional_free = refl
+blanks_in : Within blanks (star (byte_of no_ask))
+blanks_in = stars (ascii_in no_ask is_blank other)
+  where
+    other : (c : ℕ) → is_blank c ≡ true → no_ask c ≡ true
+    other c h = grind (arith, nat_tests)
 
-blanks_free : avoids (63 ∷ []) blanks ≡ true
-unfolding words.ascii
-blanks_free = refl
+gap_in : Within gap (star (byte_of no_ask))
+gap_in = more (ascii is_blank) blanks (further (once (ascii is_blank)) blanks_in) blanks_in
+
+quoted_in : (between : ℕ → Expr) → ((q : ℕ) → Within (between q) (star (byte_of no_ask))) → Within (quoted between) (star (byte_of no_ask))
+quoted_in between f = both (by 34) (by 39) (one 34 refl) (one 39 refl)
+  where
+    by : ℕ → Expr
+    by q = chain_of (range q q) (chain_of (between q) (range q q))
+
+    one : (q : ℕ) → are_in no_ask (q ∷ []) ≡ true → Within (chain_of (range q q) (chain_of (between q) (range q q))) (star (byte_of no_ask))
+    one q h = more (range q q) (chain_of (between q) (range q q)) (word_in no_ask (q ∷ []) h) (more (between q) (range q q) (f q) (word_in no_ask (q ∷ []) h))
+
+-- what stands in an attribute behind its first white space
+equals_in : (name : List ℕ) (between : ℕ → Expr) → are_in no_ask name ≡ true → ((q : ℕ) → Within (between q) (star (byte_of no_ask)))
+    → Within (chain_of (word name) (chain_of blanks (chain_of (word (codes "=")) (chain_of blanks (quoted between))))) (star (byte_of no_ask))
+equals_in name between h f =
+    more (word name) (chain_of blanks (chain_of (word (codes "=")) (chain_of blanks (quoted between)))) (word_in no_ask name h)
+    (more blanks (chain_of (word (codes "=")) (chain_of blanks (quoted between))) blanks_in
+    (more (word (codes "=")) (chain_of blanks (quoted between)) (word_in no_ask (codes "=") refl) (more blanks (quoted between) blanks_in (quoted_in between f))))
+
+version_in : Within Version (star (byte_of no_ask))
+version_in =
+    more blanks (chain_of (word (codes "version")) (chain_of blanks (chain_of (word (codes "=")) (chain_of blanks (quoted (λ q. word (codes "1.0"))))))) blanks_in
+    (equals_in (codes "version") (λ q. word (codes "1.0")) refl (λ q. word_in no_ask (codes "1.0") refl))
+
+any_case_in : (w : List ℕ) → list_all (λ c. not (is_letter c 63)) w ≡ true → Within (any_case w) (star (byte_of no_ask))
+any_case_in [] h = never (byte_of no_ask)
+any_case_in (c ∷ w) h =
+    let p = and_parts (not (is_letter c 63)) (list_all (λ c. not (is_letter c 63)) w) h in
+    more (ascii (is_letter c)) (any_case w) (ascii_in no_ask (is_letter c) (λ d m. other d m p.0)) (any_case_in w p.1)
+  where
+    other : (d : ℕ) → is_letter c d ≡ true → not (is_letter c 63) ≡ true → no_ask d ≡ true
+    other d m n = not_from_false (d == 63) (ne_eqb d 63 (λ e. both_ways (is_letter c 63) (ap (is_letter c) (sym e) ∙ m) (not-true (is_letter c 63) n)))
+      where
+        both_ways : (b : Bool) → b ≡ true → b ≡ false → ⊥
+        both_ways b t f = cc
+
+attribute_in : (name : List ℕ) (between : ℕ → Expr) → are_in no_ask name ≡ true → ((q : ℕ) → Within (between q) (star (byte_of no_ask))) → Within (attribute_of name between) (star (byte_of no_ask))
+attribute_in name between h f = more gap (chain_of (word name) (chain_of blanks (chain_of (word (codes "=")) (chain_of blanks (quoted between))))) gap_in (equals_in name between h f)
+
+encoding_in : Within encoding_form (star (byte_of no_ask))
+encoding_in = attribute_in (codes "encoding") (λ q. any_case (codes "UTF-8")) refl (λ q. any_case_in (codes "UTF-8") refl)
+
+standalone_in : Within standalone_form (star (byte_of no_ask))
+standalone_in =
+    attribute_in (codes "standalone") (λ q. either_of (word (codes "yes")) (word (codes "no"))) refl
+    (λ q. both (word (codes "yes")) (word (codes "no")) (word_in no_ask (codes "yes") refl) (word_in no_ask (codes "no") refl))
+
+optional_in : Within Optional (star (byte_of no_ask))
+optional_in =
+    both empty (either_of (chain_of encoding_form (either_of empty standalone_form)) standalone_form) (never (byte_of no_ask))
+    (both (chain_of encoding_form (either_of empty standalone_form)) standalone_form
+    (more encoding_form (either_of empty standalone_form) encoding_in (both empty standalone_form (never (byte_of no_ask)) standalone_in)) standalone_in)
 
 abbrev Later : Expr
 Later = chain_of Optional (chain_of blanks (word (codes "?>")))
 
 behind_version : Within (chain_of Version Later) (bytes_up_to 63 1)
 behind_version =
-    before Version Later (bytes_then 63 1) (chain_of (word (times 63 1)) (chain_of (star (range 63 63)) (range 62 62))) (no_question Version version_free)
-    (before Optional (chain_of blanks (word (codes "?>"))) (bytes_then 63 1) (chain_of (word (times 63 1)) (chain_of (star (range 63 63)) (range 62 62))) (no_question Optional optional_free)
-    (before blanks (word (codes "?>")) (bytes_then 63 1) (chain_of (word (times 63 1)) (chain_of (star (range 63 63)) (range 62 62))) (no_question blanks blanks_free) closed))
+    before Version Later (bytes_then 63 1) (chain_of (word (times 63 1)) (chain_of (star (range 63 63)) (range 62 62))) (no_question version_in)
+    (before Optional (chain_of blanks (word (codes "?>"))) (bytes_then 63 1) (chain_of (word (times 63 1)) (chain_of (star (range 63 63)) (range 62 62))) (no_question optional_in)
+    (before blanks (word (codes "?>")) (bytes_then 63 1) (chain_of (word (times 63 1)) (chain_of (star (range 63 63)) (range 62 62))) (no_question blanks_in) closed))
 
 body_within : Within (chain_of version_form Later) (chain_of (ascii is_blank) (bytes_up_to 63 1))
 body_within =
@@ -212,7 +243,7 @@ unfolding declaration_form
 declarations_within =
     further (word_apart (codes "<?") (codes "xml") (chain_of version_form Later))
     (in_chain (word (codes "<?")) (chain_of (word (codes "xml")) (chain_of version_form Later)) (word (codes "<?")) (chain_of name_form Ends) (own (word (codes "<?")))
-    (in_chain (word (codes "xml")) (chain_of version_form Later) name_form Ends (of_word (codes "xml") name_form (spells_name.made (codes "xml") refl))
+    (in_chain (word (codes "xml")) (chain_of version_form Later) name_form Ends (of_word (codes "xml") name_form (named (codes "xml") refl))
     (further body_within (in_right (word (codes "?>")) (chain_of (ascii is_blank) (bytes_up_to 63 1)) (own (chain_of (ascii is_blank) (bytes_up_to 63 1)))))))
 
 -- Document type declarations.
@@ -249,27 +280,32 @@ word_part : (w : List ℕ) → Matches name_form w → Within (word w) (star Par
 word_part w d = further (of_word w name_form d) name_part
 
 system_part : Within system_literal (star Part)
-unfolding words.ascii words.beyond_ascii
-system_part =
-    part_of_quotes (λ q. star (other_than q)) (free (star (other_than 34)) (34 ∷ []) (λ d. not (d == 34)) refl (but_one 34)) (free (star (other_than 39)) (39 ∷ []) (λ d. not (d == 39)) refl (but_one 39))
+system_part = part_of_quotes (λ q. star (other_than q)) (one 34) (one 39)
+  where
+    one : (q : ℕ) → Within (star (other_than q)) (literal q)
+    one q = stars (characters_in (λ d. not (d == q)) (λ d. not (d == q)) (λ d h. second (is_character d) (not (d == q)) h))
 
 public_part : Within public_literal (star Part)
-unfolding words.ascii
-public_part = part_of_quotes _ (free _ (34 ∷ []) (λ d. not (d == 34)) refl (but_one 34)) (free _ (39 ∷ []) (λ d. not (d == 39)) refl (but_one 39))
+public_part = part_of_quotes (λ q. star (ascii (λ c. in_public_identifier c && not (c == q)))) (one 34) (one 39)
+  where
+    one : (q : ℕ) → Within (star (ascii (λ c. in_public_identifier c && not (c == q)))) (literal q)
+    one q = stars (ascii_in (λ d. not (d == q)) (λ c. in_public_identifier c && not (c == q)) (λ c h. second (in_public_identifier c) (not (c == q)) h))
 
 strict_part : Within strict_literal (star Part)
-strict_part = part_of_quotes _ (free _ (34 ∷ []) (λ d. not (d == 34)) refl (but_one 34)) (free _ (39 ∷ []) (λ d. not (d == 39)) refl (but_one 39))
+strict_part =
+    part_of_quotes (λ q. word (codes "-//W3C//DTD XHTML 1.0 Strict//EN")) (word_in (λ d. not (d == 34)) (codes "-//W3C//DTD XHTML 1.0 Strict//EN") refl)
+    (word_in (λ d. not (d == 39)) (codes "-//W3C//DTD XHTML 1.0 Strict//EN") refl)
 
 public_form_part : (e : Expr) → Within e (star Part) → Within (public_form e) (star Part)
 public_form_part e f =
     more gap (chain_of (word (codes "PUBLIC")) (chain_of gap (chain_of e (chain_of gap system_literal)))) gap_part
-    (more (word (codes "PUBLIC")) (chain_of gap (chain_of e (chain_of gap system_literal))) (word_part (codes "PUBLIC") (spells_name.made (codes "PUBLIC") refl))
+    (more (word (codes "PUBLIC")) (chain_of gap (chain_of e (chain_of gap system_literal))) (word_part (codes "PUBLIC") (named (codes "PUBLIC") refl))
     (more gap (chain_of e (chain_of gap system_literal)) gap_part (more e (chain_of gap system_literal) f (more gap system_literal gap_part system_part))))
 
 system_form_part : Within system_form (star Part)
 system_form_part =
     more gap (chain_of (word (codes "SYSTEM")) (chain_of gap system_literal)) gap_part
-    (more (word (codes "SYSTEM")) (chain_of gap system_literal) (word_part (codes "SYSTEM") (spells_name.made (codes "SYSTEM") refl)) (more gap system_literal gap_part system_part))
+    (more (word (codes "SYSTEM")) (chain_of gap system_literal) (word_part (codes "SYSTEM") (named (codes "SYSTEM") refl)) (more gap system_literal gap_part system_part))
 
 identifier_part : (rule : DoctypeRule) → Within (identifier_form rule) (star Part)
 identifier_part Strict = public_form_part strict_literal strict_part
@@ -281,15 +317,14 @@ doctypes_within rule =
     in_chain (word (codes "<!DOCTYPE")) (chain_of gap (chain_of (word (codes "html")) (chain_of (identifier_form rule) (chain_of blanks (word (codes ">")))))) (word (codes "<!DOCTYPE")) (chain_of (star Part) (word (codes ">")))
     (own (word (codes "<!DOCTYPE")))
     (before gap (chain_of (word (codes "html")) (chain_of (identifier_form rule) (chain_of blanks (word (codes ">"))))) Part (word (codes ">")) gap_part
-    (before (word (codes "html")) (chain_of (identifier_form rule) (chain_of blanks (word (codes ">")))) Part (word (codes ">")) (word_part (codes "html") (spells_name.made (codes "html") refl))
+    (before (word (codes "html")) (chain_of (identifier_form rule) (chain_of blanks (word (codes ">")))) Part (word (codes ">")) (word_part (codes "html") (named (codes "html") refl))
     (before (identifier_form rule) (chain_of blanks (word (codes ">"))) Part (word (codes ">")) (identifier_part rule)
     (before blanks (word (codes ">")) Part (word (codes ">")) blanks_part (none_before Part (word (codes ">")) (own (word (codes ">"))))))))
 
 -- Characters.
 
 character_within : Within (character_of (λ c. not (c == 60 || c == 38))) (star text_byte)
-unfolding words.ascii words.beyond_ascii
-character_within = free (character_of (λ c. not (c == 60 || c == 38))) (60 ∷ 38 ∷ []) (λ c. not (c == 60 || c == 38)) refl (but_two 60 38)
+character_within = characters_in (λ c. not (c == 60 || c == 38)) (λ c. not (c == 60 || c == 38)) (λ c h. second (is_character c) (not (c == 60 || c == 38)) h)
 
 -- a character that is no `<` and no `&` is bytes of text
 pub plain_within : (c : ℕ) → is_plain c ≡ true → Matches (star text_byte) (encode_utf8_all (c ∷ []))
@@ -302,38 +337,57 @@ plain_within c h =
 
 -- The pieces all together.
 
-pub comments_coarse : Within comment_form coarse_form
+abbrev From7 : Expr
+From7 = either_of coarse_instruction coarse_doctype
+
+abbrev From6 : Expr
+From6 = either_of coarse_section From7
+
+abbrev From5 : Expr
+From5 = either_of coarse_comment From6
+
+abbrev From4 : Expr
+From4 = either_of coarse_end_tag From5
+
+abbrev From3 : Expr
+From3 = either_of coarse_tag From4
+
+abbrev From2 : Expr
+From2 = either_of coarse_reference From3
+
+marked : {e : Expr} → Within e From4 → Within e coarse_form
 unfolding coarse_form
-comments_coarse = in_right _ _ (in_right _ _ (in_right _ _ (in_right _ _ (in_left _ _ comments_within))))
+marked f = in_right text_byte From2 (in_right coarse_reference From3 (in_right coarse_tag From4 f))
+
+remarked : {e : Expr} → Within e From6 → Within e coarse_form
+remarked f = marked (in_right coarse_end_tag From5 (in_right coarse_comment From6 f))
+
+pub comments_coarse : Within comment_form coarse_form
+comments_coarse = marked (in_right coarse_end_tag From5 (in_left coarse_comment From6 comments_within))
 
 pub sections_coarse : Within section_form coarse_form
-unfolding coarse_form
-sections_coarse = in_right _ _ (in_right _ _ (in_right _ _ (in_right _ _ (in_right _ _ (in_left _ _ sections_within)))))
+sections_coarse = remarked (in_left coarse_section From7 sections_within)
 
 pub instructions_coarse : Within instruction_form coarse_form
-unfolding coarse_form
-instructions_coarse = in_right _ _ (in_right _ _ (in_right _ _ (in_right _ _ (in_right _ _ (in_right _ _ (in_left _ _ instructions_within))))))
+instructions_coarse = remarked (in_right coarse_section From7 (in_left coarse_instruction coarse_doctype instructions_within))
 
 pub declarations_coarse : Within declaration_form coarse_form
-unfolding coarse_form
-declarations_coarse = in_right _ _ (in_right _ _ (in_right _ _ (in_right _ _ (in_right _ _ (in_right _ _ (in_left _ _ declarations_within))))))
+declarations_coarse = remarked (in_right coarse_section From7 (in_left coarse_instruction coarse_doctype declarations_within))
 
 pub doctypes_coarse : (rule : DoctypeRule) → Within (doctype_form rule) coarse_form
-unfolding coarse_form
-doctypes_coarse rule = in_right _ _ (in_right _ _ (in_right _ _ (in_right _ _ (in_right _ _ (in_right _ _ (in_right _ _ (doctypes_within rule)))))))
+doctypes_coarse rule = remarked (in_right coarse_section From7 (in_right coarse_instruction coarse_doctype (doctypes_within rule)))
 
 pub tags_coarse : Within coarse_tag coarse_form
 unfolding coarse_form
-tags_coarse = in_right _ _ (in_right _ _ (in_left _ _ (own coarse_tag)))
+tags_coarse = in_right text_byte From2 (in_right coarse_reference From3 (in_left coarse_tag From4 (own coarse_tag)))
 
 pub end_tags_coarse : Within coarse_end_tag coarse_form
-unfolding coarse_form
-end_tags_coarse = in_right _ _ (in_right _ _ (in_right _ _ (in_left _ _ (own coarse_end_tag))))
+end_tags_coarse = marked (in_left coarse_end_tag From5 (own coarse_end_tag))
 
 pub references_coarse : Within coarse_reference coarse_form
 unfolding coarse_form
-references_coarse = in_right _ _ (in_left _ _ (own coarse_reference))
+references_coarse = in_right text_byte From2 (in_left coarse_reference From3 (own coarse_reference))
 
 pub text_coarse : Within (star text_byte) (star coarse_form)
 unfolding coarse_form
-text_coarse = stars (further (in_left _ _ (own text_byte)) (once coarse_form))
+text_coarse = stars (further (in_left text_byte From2 (own text_byte)) (once coarse_form))

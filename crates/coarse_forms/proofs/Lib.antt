@@ -1,6 +1,6 @@
 pub mod Bytes
 mod Leads
 pub mod Scanning
-pub mod Free
 pub mod Within
 pub mod Lawful
+pub mod Counted

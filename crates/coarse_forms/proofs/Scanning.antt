@@ -13,7 +13,7 @@ use Rattle.page_forms.specs.Remarks.{times}
 use Rattle.page_forms.specs.Words.{word, ascii, name_form}
 use Rattle.page_forms.proofs.NameForms.{begins_in}
 use Rattle.coarse_forms.specs.CoarseForms.{byte_of, byte_but, text_byte, coarse_reference, parts_of_tag, value_bytes, coarse_tag, coarse_end_tag, coarse_comment, bytes_then, bytes_up_to, coarse_section, coarse_instruction, coarse_doctype, coarse_form}
-use Rattle.coarse_forms.specs.Laws.{CoarseEndsOnce}
+use Rattle.coarse_forms.specs.Laws.{CoarseEndsOnce, CoarseHasBytes}
 use Rattle.coarse_forms.proofs.Leads.{Scanner, Leads, leads_chain, leads_either, leads_star, leads_word, leads_byte, leads_ascii, leads_byte_of, leads_quoted, if_so, if_not}
 
 -- up to this byte
@@ -252,3 +252,9 @@ coarse_ends_once u v d f = same v [] (sym (scanned.goes u v d) ∙ ap scan (sym 
   where
     same : (x y : List ℕ) → (let o : Option (List ℕ) = Some x in o ≡ Some y) → x ≡ y
     same x y e = cc
+
+pub coarse_has_bytes : CoarseHasBytes
+coarse_has_bytes d = no (scanned.goes [] [] d)
+  where
+    no : (let o : Option (List ℕ) = None in o ≡ Some []) → ⊥
+    no e = cc

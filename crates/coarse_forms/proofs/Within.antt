@@ -1,17 +1,18 @@
 -- Expressions of which each text is one of another expression.
 use Rattle.std.proofs.Common.{◌≡◌, ◌⊎◌, inl, inr, ℕ, ◌<◌, ◌≤◌, Bool, true, false, List, [], ◌∷◌, ◌++◌, refl, sym, ◌∙◌, ap, subst, arith}
-use Rattle.std.specs.Prelude.{◌==◌, not}
+use Rattle.std.specs.Prelude.{◌&&◌, ◌||◌, nat_le}
+use Rattle.std.proofs.lemmas.Bool.{and_parts, or_cases, leb-true}
+use Rattle.xml_text.specs.Characters.{is_character}
 use Rattle.std.specs.List.{list_all}
 use Rattle.derivatives.specs.Expressions.{Expr, empty, range, chain, either, star, Joins, at_once, on, Matches, is_empty, is_byte, is_chain, is_left, is_right, is_over, is_more}
-use Rattle.derivatives.specs.Derivatives.{may_end, chain_of, either_of}
-use Rattle.derivatives.proofs.Ends.{ends_empty}
+use Rattle.derivatives.specs.Derivatives.{chain_of, either_of}
 use Rattle.derivatives.proofs.NormalForms.{chain_shown, chain_made, either_shown, either_made, ends_there}
 use Rattle.page_forms.specs.Quotes.{quoted}
-use Rattle.page_forms.specs.Words.{word, ascii}
-use Rattle.page_forms.proofs.Spelling.{word_shown, word_made}
+use Rattle.page_forms.specs.Words.{word, ascii, character_of, beyond_ascii, low_rows, middle_rows, high_rows}
+use Rattle.page_forms.proofs.OneCharacter.{AreIn, InRows, rows_shown}
+use Rattle.page_forms.proofs.Spelling.{word_shown}
 use Rattle.coarse_forms.specs.CoarseForms.{byte_of}
-use Rattle.coarse_forms.proofs.Bytes.{ascii_shown, ascii_made, byte_made}
-use Rattle.coarse_forms.proofs.Free.{is_none_of, avoids, AreFree, free_matched}
+use Rattle.coarse_forms.proofs.Bytes.{Low, ascii_shown, ascii_made, byte_made}
 
 -- each text of the one is a text of the other
 pub record Within (x y : Expr) : Type 0 where
@@ -96,7 +97,7 @@ word_apart (b ∷ u) v y =
 
 -- Repetitions.
 
-stars_join : {x : Expr} {u v w : List ℕ} → Matches (star x) u → Joins u v w → Matches (star x) v → Matches (star x) w
+pub stars_join : {x : Expr} {u v w : List ℕ} → Matches (star x) u → Joins u v w → Matches (star x) v → Matches (star x) w
 stars_join is_over at_once e = e
 stars_join (is_more k f g) j e = let s = split k j in is_more s.outer f (stars_join g s.inner e)
 
@@ -141,28 +142,103 @@ none_before a c f = record { goes = λ w d. chain_made (star a) c (is_chain at_o
 pub in_ascii : (t s : ℕ → Bool) → ((c : ℕ) → t c ≡ true → s c ≡ true) → Within (ascii t) (ascii s)
 in_ascii t s f = record { goes = λ w d. let o = ascii_shown t d in subst (λ (z : List ℕ). Matches (ascii s) z) o.is (ascii_made s o.byte o.low (f o.byte o.passes)) }
 
--- the bytes pass where they are none of these
-abbrev pub Passes : List ℕ → (ℕ → Bool) → Type 0
-Passes cs test = (b : ℕ) → is_none_of cs b ≡ true → test b ≡ true
+module _ (test : ℕ → Bool) where
+  -- bytes of ASCII that pass
+  pub ascii_in : (t : ℕ → Bool) → ((c : ℕ) → t c ≡ true → test c ≡ true) → Within (ascii t) (star (byte_of test))
+  ascii_in t f = further (further (in_ascii t test f) (in_left (ascii test) (range 128 255) (own (ascii test)))) (once (byte_of test))
 
-free_stars : (cs : List ℕ) (test : ℕ → Bool) → Passes cs test → (w : List ℕ) → AreFree cs w → Matches (star (byte_of test)) w
-free_stars cs test f [] h = is_over
-free_stars cs test f (b ∷ w) h = is_more (on at_once) (byte_made test b h.0 (inl (f b h.1))) (free_stars cs test f w h.2)
+  -- each byte passes, and is one
+  abbrev pub are_in : List ℕ → Bool
+  are_in w = list_all (λ b. nat_le b 255 && (test b || nat_le 128 b)) w
 
-pub free : (e : Expr) (cs : List ℕ) (test : ℕ → Bool) → avoids cs e ≡ true → Passes cs test → Within e (star (byte_of test))
-free e cs test h f = record { goes = λ w d. free_stars cs test f w (free_matched cs h d) }
+  pub bytes_in : (w : List ℕ) → are_in w ≡ true → Matches (star (byte_of test)) w
+  bytes_in [] h = is_over
+  bytes_in (b ∷ w) h =
+      let p = and_parts (nat_le b 255 && (test b || nat_le 128 b)) (are_in w) h in
+      let q = and_parts (nat_le b 255) (test b || nat_le 128 b) p.0 in
+      is_more (on at_once) (byte_made test b (leb-true b 255 q.0) (at (or_cases (test b) (nat_le 128 b) q.1))) (bytes_in w p.1)
+    where
+      at : (test b ≡ true) ⊎ (nat_le 128 b ≡ true) → (test b ≡ true) ⊎ (128 ≤ b)
+      at (inl t) = inl t
+      at (inr l) = inr (leb-true 128 b l)
 
--- the same of texts that have a byte
-pub free_some : (e : Expr) (cs : List ℕ) (first test : ℕ → Bool) → may_end e ≡ false → avoids cs e ≡ true → Passes cs first → Passes cs test
-    → Within e (chain_of (byte_of first) (star (byte_of test)))
-free_some e cs first test n h f g = record { goes = λ w d. at w d (free_matched cs h d) }
+  pub word_in : (w : List ℕ) → are_in w ≡ true → Within (word w) (star (byte_of test))
+  word_in w h = of_word w (star (byte_of test)) (bytes_in w h)
+
+-- the ranges of a row lie beyond ASCII, and there is one
+abbrev high_ranges : List (ℕ × ℕ) → Bool
+high_ranges [] = true
+high_ranges (r ∷ rs) = nat_le 128 r.0 && nat_le r.1 255 && high_ranges rs
+
+-- each row has a range, and they lie there
+abbrev high_rows_all : List (List (ℕ × ℕ)) → Bool
+high_rows_all [] = true
+high_rows_all ([] ∷ rows) = false
+high_rows_all ((r ∷ rs) ∷ rows) = high_ranges (r ∷ rs) && high_rows_all rows
+
+-- bytes beyond ASCII
+abbrev AreHigh : List ℕ → Type 0
+AreHigh [] = Unit {0}
+AreHigh (b ∷ w) = (128 ≤ b) × (b ≤ 255) × AreHigh w
+
+row_high : (rs : List (ℕ × ℕ)) (w : List ℕ) → high_ranges rs ≡ true → AreIn rs w → AreHigh w
+row_high [] [] h p = tt
+row_high [] (b ∷ w) h p = absurd p
+row_high (r ∷ rs) [] h p = absurd p
+row_high (r ∷ rs) (b ∷ w) h p =
+    let q = and_parts (nat_le 128 r.0 && nat_le r.1 255) (high_ranges rs) h in
+    let k = and_parts (nat_le 128 r.0) (nat_le r.1 255) q.0 in
+    let low = leb-true 128 r.0 k.0 in
+    let high = leb-true r.1 255 k.1 in
+    let m = p.0 in
+    let n = p.1 in
+    (omega (arith, low, m), omega (arith, high, n), row_high rs w q.1 p.2)
+
+-- one byte beyond ASCII, and others
+record SomeHigh (w : List ℕ) : Type 0 where
+  first : ℕ
+  others : List ℕ
+  low : 128 ≤ first
+  high : first ≤ 255
+  rest : AreHigh others
+  is : first ∷ others ≡ w
+
+rows_high : (rows : List (List (ℕ × ℕ))) (w : List ℕ) → high_rows_all rows ≡ true → InRows rows w → SomeHigh w
+rows_high [] w h p = absurd p
+rows_high ([] ∷ rows) w h p = cc
+rows_high ((r ∷ rs) ∷ rows) [] h (inl p) = absurd p
+rows_high ((r ∷ rs) ∷ rows) (b ∷ w) h (inl p) =
+    let a = row_high (r ∷ rs) (b ∷ w) (and_parts (high_ranges (r ∷ rs)) (high_rows_all rows) h).0 p in
+    record { first = b; others = w; low = a.0; high = a.1; rest = a.2; is = refl }
+rows_high ((r ∷ rs) ∷ rows) w h (inr p) = rows_high rows w (and_parts (high_ranges (r ∷ rs)) (high_rows_all rows) h).1 p
+
+beyond_high : {w : List ℕ} → Matches beyond_ascii w → SomeHigh w
+unfolding beyond_ascii
+beyond_high {w} d = rows_high (low_rows ++ (middle_rows ++ high_rows)) w refl (rows_shown (low_rows ++ (middle_rows ++ high_rows)) d)
+
+high_stars : (test : ℕ → Bool) (w : List ℕ) → AreHigh w → Matches (star (byte_of test)) w
+high_stars test [] h = is_over
+high_stars test (b ∷ w) h = is_more (on at_once) (byte_made test b h.1 (inr h.0)) (high_stars test w h.2)
+
+-- the bytes of a character, of which the first passes the one test and the others another one
+pub character_in : (t first test : ℕ → Bool) → ((c : ℕ) → (is_character c && t c) ≡ true → first c ≡ true)
+    → Within (character_of t) (chain_of (byte_of first) (star (byte_of test)))
+character_in t first test f = both (ascii (λ c. is_character c && t c)) beyond_ascii (record { goes = λ w d. low_at (ascii_shown (λ c. is_character c && t c) d) }) (record { goes = λ w d. high_at (beyond_high d) })
   where
-    not_both : (b : Bool) → b ≡ true → b ≡ false → ⊥
-    not_both b t f = cc
+    low_at : {w : List ℕ} → Low (λ c. is_character c && t c) w → Matches (chain_of (byte_of first) (star (byte_of test))) w
+    low_at {w} o =
+        let l = o.low in
+        subst (λ (z : List ℕ). Matches (chain_of (byte_of first) (star (byte_of test))) z) o.is
+        (chain_made (byte_of first) (star (byte_of test)) (is_chain (on at_once) (byte_made first o.byte (omega (arith, l)) (inl (f o.byte o.passes))) is_over))
 
-    at : (w : List ℕ) → Matches e w → AreFree cs w → Matches (chain_of (byte_of first) (star (byte_of test))) w
-    at [] d a = absurd (not_both (may_end e) (ends_empty e d) n)
-    at (b ∷ w) d a = chain_made (byte_of first) (star (byte_of test)) (is_chain (on at_once) (byte_made first b a.0 (inl (f b a.1))) (free_stars cs test g w a.2))
+    high_at : {w : List ℕ} → SomeHigh w → Matches (chain_of (byte_of first) (star (byte_of test))) w
+    high_at {w} o =
+        subst (λ (z : List ℕ). Matches (chain_of (byte_of first) (star (byte_of test))) z) o.is
+        (chain_made (byte_of first) (star (byte_of test)) (is_chain (on at_once) (byte_made first o.first o.high (inr o.low)) (high_stars test o.others o.rest)))
+
+-- the same where all of them pass one test
+pub characters_in : (t test : ℕ → Bool) → ((c : ℕ) → (is_character c && t c) ≡ true → test c ≡ true) → Within (character_of t) (star (byte_of test))
+characters_in t test f = further (character_in t test test f) (more (byte_of test) (star (byte_of test)) (once (byte_of test)) (own (star (byte_of test))))
 
 pub quotes : (between : ℕ → Expr) (others : ℕ → Expr) → Within (between 34) (others 34) → Within (between 39) (others 39) → Within (quoted between) (quoted others)
 quotes between others f g =

@@ -1,0 +1,7 @@
+pub mod Telling
+pub mod Bytes
+pub mod Coarse
+pub mod LooseTags
+pub mod References
+pub mod Pieces
+pub mod Ending

@@ -1,0 +1,2 @@
+pub mod LooseForms
+pub mod Laws
