@@ -5,3 +5,5 @@ pub mod LooseTags
 pub mod References
 pub mod Pieces
 pub mod Ending
+mod Characters
+mod Loosened

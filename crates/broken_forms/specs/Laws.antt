@@ -1,9 +1,10 @@
 -- The laws of the forms of loose pieces, as statements.
-use Rattle.std.specs.Prelude.{◌≡◌, ◌⊎◌, ◌↔◌, ℕ, true, List, [], ◌++◌}
+use Rattle.std.specs.Prelude.{◌≡◌, ◌⊎◌, ◌↔◌, ℕ, Bool, true, false, List, [], ◌++◌}
 use Rattle.std.specs.List.{list_all, list_any}
 use Rattle.xml_text.specs.Characters.{is_blank}
 use Rattle.xml_text.specs.Names.{is_name}
 use Rattle.text_base.specs.declared.page_token.PageToken.{PageToken}
+use Rattle.text_base.specs.declared.page_token.PageToken.TheVariants as token
 use Rattle.dtd_model.specs.References.{Reference}
 use Rattle.dtd_model.specs.Table.{Table}
 use Rattle.derivatives.specs.Expressions.{Expr, Matches, star}
@@ -58,3 +59,13 @@ LooseEndOnce = (table : Table) (place : Place) (p q : Piece) (more : List ℕ) �
 -- a page of bytes that is no coarse pieces in turn is broken by each definition
 abbrev pub CoarseAreBroken : Type 0
 CoarseAreBroken = (table : Table) (page : List ℕ) → OfBytes page → (Matches (star coarse_form) page → ⊥) → Broken table page
+
+-- the token is that of a rest that no piece begins
+abbrev pub is_bad : PageToken → Bool
+is_bad token.Bad = true
+is_bad t = false
+
+-- the tokens of a broken page hold one that is bad
+abbrev pub BrokenHaveBad : Type 0
+BrokenHaveBad = (table : Table) (bytes : List ℕ) (tokens : List PageToken) → Broken table bytes → PageTokens table bytes tokens
+    → list_any is_bad tokens ≡ true

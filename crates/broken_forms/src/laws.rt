@@ -1,6 +1,6 @@
 //! The laws. Each function does nothing, and stands for the law that its contract states.
 
-ghost use Rattle.broken_forms.specs.Laws.{CoarseAreBroken, EndsAreSpelled, LooseEndOnce, LoosePiecesAreSpelled, LooseReferencesAreSpelled, LooseTagsAreSpelled};
+ghost use Rattle.broken_forms.specs.Laws.{BrokenHaveBad, CoarseAreBroken, EndsAreSpelled, LooseEndOnce, LoosePiecesAreSpelled, LooseReferencesAreSpelled, LooseTagsAreSpelled};
 
 /// The loose tags.
 pub fn loose_tags_are_spelled()
@@ -30,4 +30,9 @@ pub fn loose_pieces_end_once()
 /// A page that is no coarse pieces in turn is broken.
 pub fn coarse_pages_are_broken()
     ensures { CoarseAreBroken }
+{}
+
+/// The tokens of a broken page hold one that is bad.
+pub fn broken_have_bad()
+    ensures { BrokenHaveBad }
 {}

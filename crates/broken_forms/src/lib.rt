@@ -8,6 +8,6 @@
 mod laws;
 
 pub use laws::{
-    coarse_pages_are_broken, ends_are_spelled, loose_pieces_are_spelled, loose_pieces_end_once,
-    loose_references_are_spelled, loose_tags_are_spelled,
+    broken_have_bad, coarse_pages_are_broken, ends_are_spelled, loose_pieces_are_spelled,
+    loose_pieces_end_once, loose_references_are_spelled, loose_tags_are_spelled,
 };

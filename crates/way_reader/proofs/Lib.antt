@@ -2,3 +2,4 @@ pub mod Reading
 pub mod Same
 pub mod Pages
 pub mod Forms
+pub mod Cuts

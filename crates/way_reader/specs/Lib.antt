@@ -1,3 +1,4 @@
 pub mod Exactness
 pub mod Ways
 pub mod Laws
+pub mod Cuts
