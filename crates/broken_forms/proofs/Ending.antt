@@ -13,6 +13,7 @@ use Rattle.page_model.specs.PageTokens.{IsLawful, piece_bytes}
 use Rattle.page_model.specs.Parts.{is_plain}
 use Rattle.page_model.specs.Pieces.{Piece, mark, declaration, doctype, start_tag, empty_tag, end_tag, leaf, after}
 use Rattle.page_model.specs.Places.{Place, at_beginning}
+use Rattle.page_model.proofs.Encoding.{some_bytes}
 use Rattle.page_model.proofs.Once.{one_of_bytes}
 use Rattle.page_forms.proofs.Spelling.{joins_all}
 use Rattle.coarse_forms.specs.CoarseForms.{coarse_form}
@@ -64,6 +65,16 @@ by_kinds table place p q more (single c l) (single d m) e =
 pub loose_end_once : LooseEndOnce
 loose_end_once table place p q more l m b e =
     by_kinds table place p q more (kind table place p l (bytes_apart (loose_bytes p) more (subst OfBytes (sym e) b)).0) (kind table place q m b) e
+
+pub loose_have_bytes : (table : Table) (place : Place) (p : Piece) → IsLoose table place p → OfBytes (loose_bytes p) → loose_bytes p ≡ [] → ⊥
+loose_have_bytes table place p l b e = at (kind table place p l b)
+  where
+    at : IsOfKind table place p → ⊥
+    at (coarse c) = some c.first c.rest (c.is ∙ e)
+      where
+        some : (b : ℕ) (w : List ℕ) → b ∷ w ≡ [] → ⊥
+        some b w e = cc
+    at (single c l) = some_bytes c.code [] (c.is ∙ e)
 
 coarse_then : (table : Table) (place : Place) (ps : List Piece) → AreLoose table place ps → OfBytes (loose_then ps) → Matches (star coarse_form) (loose_then ps)
 coarse_then table place [] l b = is_over

@@ -113,12 +113,14 @@ attributes_into (further {first = first} {more = more} a r) =
 -- the value of an attribute, and what stands behind it, are bytes where all is
 value_bytes_of : (a : Attribute) (rest : List ℕ) → OfBytes (attribute_then a rest) → OfBytes a.value × OfBytes rest
 value_bytes_of a rest h =
-    let b = (bytes_apart a.space _ h).1 in
-    let c = (bytes_apart a.name _ b).1 in
-    let d = (bytes_apart a.before_equals _ c).1 in
-    let e = (bytes_apart (61 ∷ []) _ d).1 in
-    let f = (bytes_apart a.after_equals _ e).1 in
-    let g = (bytes_apart (a.quote ∷ []) _ f).1 in
+    let from_quote : List ℕ = a.value ++ a.quote ∷ rest in
+    let from_equals : List ℕ = a.after_equals ++ a.quote ∷ from_quote in
+    let b = (bytes_apart a.space (a.name ++ (a.before_equals ++ 61 ∷ from_equals)) h).1 in
+    let c = (bytes_apart a.name (a.before_equals ++ 61 ∷ from_equals) b).1 in
+    let d = (bytes_apart a.before_equals (61 ∷ from_equals) c).1 in
+    let e = (bytes_apart (61 ∷ []) from_equals d).1 in
+    let f = (bytes_apart a.after_equals (a.quote ∷ from_quote) e).1 in
+    let g = (bytes_apart (a.quote ∷ []) from_quote f).1 in
     let v = bytes_apart a.value (a.quote ∷ rest) g in
     (v.0, (bytes_apart (a.quote ∷ []) rest v.1).1)
 

@@ -16,7 +16,7 @@ use Rattle.dtd_model.specs.Table.{Table}
 use Rattle.derivatives.specs.Expressions.{Expr, star, Matches}
 use Rattle.page_model.specs.Broken.{is_loose_reference, IsLoose, loose_bytes}
 use Rattle.page_model.specs.PageTokens.{IsLawful, piece_bytes, piece_tokens}
-use Rattle.page_model.specs.Parts.{character, reference, section, comment, instruction, is_plain}
+use Rattle.page_model.specs.Parts.{tag_then, character, reference, section, comment, instruction, is_plain}
 use Rattle.page_model.specs.Pieces.{Piece, mark, declaration, doctype, start_tag, empty_tag, end_tag, leaf, after}
 use Rattle.page_model.specs.Places.{Place, at_beginning, behind_mark, behind, brackets}
 use Rattle.page_forms.specs.Doctypes.{doctype_form}
@@ -44,7 +44,7 @@ use Rattle.broken_forms.proofs.References.{reference_shown, reference_made, end_
 
 -- The definition without elements and entities: its lawful pieces are the loose ones that are no tags, with exact references.
 
-abbrev bare : Table → Table
+abbrev pub bare : Table → Table
 bare table = record { elements = []; entities = []; doctype = table.doctype }
 
 bare_lawful : is_lawful [] [] ≡ true
@@ -76,7 +76,7 @@ lawful_loose table place (leaf (section cs)) l = record { is = l.is; allowed = r
 lawful_loose table place (leaf (comment cs)) l = record { is = l.is; allowed = refl }
 lawful_loose table place (leaf (instruction target cs)) l = record { is = l.is; allowed = refl }
 
-same_bytes : (table : Table) (place : Place) (p : Piece) → IsLawful (bare table) place p → loose_bytes p ≡ piece_bytes p
+pub same_bytes : (table : Table) (place : Place) (p : Piece) → IsLawful (bare table) place p → loose_bytes p ≡ piece_bytes p
 same_bytes table place mark l = refl
 same_bytes table place (declaration d) l = refl
 same_bytes table place (doctype d) l = refl
@@ -118,9 +118,9 @@ reference_kind table place r h = at r ((references_within table.entities).goes (
     put r rest e d = record { matches = d; first = 38; rest = encode_utf8_all rest; head = inr refl; is = and_first rest ∙ e; leads = refl }
 
     at : (r : Reference) → Matches coarse_form (piece_bytes (leaf (reference r))) → IsCoarse place (leaf (reference r))
-    at (decimal ds) d = put (decimal ds) _ refl d
-    at (hexadecimal ds) d = put (hexadecimal ds) _ refl d
-    at (entity name) d = put (entity name) _ refl d
+    at (decimal ds) d = put (decimal ds) (35 ∷ (ds ++ 59 ∷ [])) refl d
+    at (hexadecimal ds) d = put (hexadecimal ds) (35 ∷ 120 ∷ (ds ++ 59 ∷ [])) refl d
+    at (entity name) d = put (entity name) (name ++ 59 ∷ []) refl d
 
 lawful_kind : (table : Table) (place : Place) (p : Piece) → IsLawful (bare table) place p → IsCoarse place p ⊎ IsCharacter place p
 lawful_kind table place mark l = inr (record { code = 0xFEFF; plain = refl; is = refl })
@@ -157,9 +157,9 @@ kind table place mark l b = of_lawful table place mark (record { is = l.is; allo
 kind table place (declaration d) l b = of_lawful table place (declaration d) (record { is = l.is; allowed = refl })
 kind table place (doctype d) l b = of_lawful table place (doctype d) (record { is = l.is; allowed = l.allowed })
 kind table place (start_tag tag) l b =
-    coarse (record { matches = (tags_within (names_of table)).goes (loose_bytes (start_tag tag)) (tags.made table tag (62 ∷ []) (inl refl) l b); first = 60; rest = _; head = inl refl; is = refl; leads = refl })
+    coarse (record { matches = (tags_within (names_of table)).goes (loose_bytes (start_tag tag)) (tags.made table tag (62 ∷ []) (inl refl) l b); first = 60; rest = tag_then tag (62 ∷ []); head = inl refl; is = refl; leads = refl })
 kind table place (empty_tag tag) l b =
-    coarse (record { matches = (tags_within (names_of table)).goes (loose_bytes (empty_tag tag)) (tags.made table tag (47 ∷ 62 ∷ []) (inr refl) l b); first = 60; rest = _; head = inl refl; is = refl; leads = refl })
+    coarse (record { matches = (tags_within (names_of table)).goes (loose_bytes (empty_tag tag)) (tags.made table tag (47 ∷ 62 ∷ []) (inr refl) l b); first = 60; rest = tag_then tag (47 ∷ 62 ∷ []); head = inl refl; is = refl; leads = refl })
 kind table place (end_tag name space) l b =
     coarse (less _ refl ((ends_within (names_of table)).goes (piece_bytes (end_tag name space)) (end_made table name space l.is.0 l.is.1 l.allowed)) refl)
 kind table place (leaf (character c)) l b = of_lawful table place (leaf (character c)) (record { is = l.is; allowed = refl })

@@ -1,2 +1,3 @@
 pub mod CoarseForms
+pub mod Languages
 pub mod Laws
