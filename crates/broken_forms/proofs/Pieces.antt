@@ -17,7 +17,7 @@ use Rattle.derivatives.specs.Expressions.{Expr, star, Matches}
 use Rattle.page_model.specs.Broken.{is_loose_reference, IsLoose, loose_bytes}
 use Rattle.page_model.specs.PageTokens.{IsLawful, piece_bytes, piece_tokens}
 use Rattle.page_model.specs.Parts.{tag_then, character, reference, section, comment, instruction, is_plain}
-use Rattle.page_model.specs.Pieces.{Piece, mark, declaration, doctype, start_tag, empty_tag, end_tag, leaf, after}
+use Rattle.page_model.specs.Pieces.{Piece, mark, declaration, doctype, start_tag, empty_tag, end_tag, leaf, piece_then, after}
 use Rattle.page_model.specs.Places.{Place, at_beginning, behind_mark, behind, brackets}
 use Rattle.page_forms.specs.Doctypes.{doctype_form}
 use Rattle.page_forms.specs.Forms.{Form, giving, early_forms, leaf_forms, forms, IsOfForm, IsOfOne}
@@ -111,6 +111,11 @@ and_first rest = sym (ap (λ (z : List ℕ). z ++ encode_utf8_all rest) (encode_
 less : {place : Place} {p : Piece} (rest : List ℕ) → encode_utf8_all (60 ∷ rest) ≡ loose_bytes p → Matches coarse_form (loose_bytes p) → after place p ≡ behind 0 → IsCoarse place p
 less rest e d l = record { matches = d; first = 60; rest = encode_utf8_all rest; head = inl refl; is = less_first rest ∙ e; leads = l }
 
+-- without the first character
+abbrev later : List ℕ → List ℕ
+later [] = []
+later (c ∷ cs) = cs
+
 reference_kind : (table : Table) (place : Place) (r : Reference) → is_loose_reference table r ≡ true → IsCoarse place (leaf (reference r))
 reference_kind table place r h = at r ((references_within table.entities).goes (piece_bytes (leaf (reference r))) (reference_made table r h))
   where
@@ -125,20 +130,20 @@ reference_kind table place r h = at r ((references_within table.entities).goes (
 lawful_kind : (table : Table) (place : Place) (p : Piece) → IsLawful (bare table) place p → IsCoarse place p ⊎ IsCharacter place p
 lawful_kind table place mark l = inr (record { code = 0xFEFF; plain = refl; is = refl })
 lawful_kind table place (declaration d) l =
-    inl (less _ refl (declarations_coarse.goes (piece_bytes (declaration d)) ((declarations_are_spelled (piece_bytes (declaration d))).1 (declaration d, (d, refl, l.is.1), refl))) refl)
+    inl (less (later (piece_then (declaration d) [])) refl (declarations_coarse.goes (piece_bytes (declaration d)) ((declarations_are_spelled (piece_bytes (declaration d))).1 (declaration d, (d, refl, l.is.1), refl))) refl)
 lawful_kind table place (doctype d) l =
-    inl (less _ refl ((doctypes_coarse table.doctype).goes (piece_bytes (doctype d)) ((doctypes_are_spelled table.doctype (piece_bytes (doctype d))).1 (doctype d, (d, refl, l.is, l.allowed), refl))) refl)
+    inl (less (later (piece_then (doctype d) [])) refl ((doctypes_coarse table.doctype).goes (piece_bytes (doctype d)) ((doctypes_are_spelled table.doctype (piece_bytes (doctype d))).1 (doctype d, (d, refl, l.is, l.allowed), refl))) refl)
 lawful_kind table place (start_tag tag) l = absurd (no l.allowed)
 lawful_kind table place (empty_tag tag) l = absurd (no l.allowed)
 lawful_kind table place (end_tag name space) l = absurd (no l.allowed)
 lawful_kind table place (leaf (character c)) l = inr (record { code = c; plain = l.is.1; is = refl })
 lawful_kind table place (leaf (reference r)) l = inl (reference_kind table place r (loose_reference table r l.is.1 l.allowed))
 lawful_kind table place (leaf (section cs)) l =
-    inl (less _ refl (sections_coarse.goes (piece_bytes (leaf (section cs))) ((sections_are_spelled (piece_bytes (leaf (section cs)))).1 (leaf (section cs), (cs, refl, l.is.1), refl))) refl)
+    inl (less (later (piece_then (leaf (section cs)) [])) refl (sections_coarse.goes (piece_bytes (leaf (section cs))) ((sections_are_spelled (piece_bytes (leaf (section cs)))).1 (leaf (section cs), (cs, refl, l.is.1), refl))) refl)
 lawful_kind table place (leaf (comment cs)) l =
-    inl (less _ refl (comments_coarse.goes (piece_bytes (leaf (comment cs))) ((comments_are_spelled (piece_bytes (leaf (comment cs)))).1 (leaf (comment cs), (cs, refl, l.is.1), refl))) refl)
+    inl (less (later (piece_then (leaf (comment cs)) [])) refl (comments_coarse.goes (piece_bytes (leaf (comment cs))) ((comments_are_spelled (piece_bytes (leaf (comment cs)))).1 (leaf (comment cs), (cs, refl, l.is.1), refl))) refl)
 lawful_kind table place (leaf (instruction target cs)) l =
-    inl (less _ refl (instructions_coarse.goes (piece_bytes (leaf (instruction target cs))) ((instructions_are_spelled (piece_bytes (leaf (instruction target cs)))).1 (leaf (instruction target cs), (target, cs, refl, l.is.1), refl))) refl)
+    inl (less (later (piece_then (leaf (instruction target cs)) [])) refl (instructions_coarse.goes (piece_bytes (leaf (instruction target cs))) ((instructions_are_spelled (piece_bytes (leaf (instruction target cs)))).1 (leaf (instruction target cs), (target, cs, refl, l.is.1), refl))) refl)
 
 -- each loose piece of bytes, where what is no tag and no reference is lawful by the bare definition
 pub data IsOfKind (table : Table) (place : Place) (p : Piece) : Type 0 where
@@ -161,7 +166,7 @@ kind table place (start_tag tag) l b =
 kind table place (empty_tag tag) l b =
     coarse (record { matches = (tags_within (names_of table)).goes (loose_bytes (empty_tag tag)) (tags.made table tag (47 ∷ 62 ∷ []) (inr refl) l b); first = 60; rest = tag_then tag (47 ∷ 62 ∷ []); head = inl refl; is = refl; leads = refl })
 kind table place (end_tag name space) l b =
-    coarse (less _ refl ((ends_within (names_of table)).goes (piece_bytes (end_tag name space)) (end_made table name space l.is.0 l.is.1 l.allowed)) refl)
+    coarse (less (later (piece_then (end_tag name space) [])) refl ((ends_within (names_of table)).goes (piece_bytes (end_tag name space)) (end_made table name space l.is.0 l.is.1 l.allowed)) refl)
 kind table place (leaf (character c)) l b = of_lawful table place (leaf (character c)) (record { is = l.is; allowed = refl })
 kind table place (leaf (reference r)) l b = coarse (reference_kind table place r l)
 kind table place (leaf (section cs)) l b = of_lawful table place (leaf (section cs)) (record { is = l.is; allowed = refl })

@@ -40,13 +40,15 @@ end_form names = chain_of (word (codes "</")) (chain_of (one_of_words is_name na
 abbrev pub some_digits : (ℕ → Bool) → Expr
 some_digits is_digit = chain_of (ascii is_digit) (star (ascii is_digit))
 
--- `&`, `#` and any digits, or `#x` and any hexadecimal ones, or the name of an entity that is known, and `;`
+-- `#` and any digits, or `#x` and any hexadecimal ones
+abbrev pub loose_number : Expr
+loose_number =
+    chain_of (word (codes "#")) (either_of (some_digits is_ascii_digit) (chain_of (word (codes "x")) (some_digits is_ascii_hexdigit)))
+
+-- `&`, such a number or the name of an entity that is known, and `;`
 unfoldable pub loose_reference_form : List (List ℕ) → Expr
 loose_reference_form entities =
-    chain_of (word (codes "&"))
-    (chain_of
-    (either_of (chain_of (word (codes "#")) (either_of (some_digits is_ascii_digit) (chain_of (word (codes "x")) (some_digits is_ascii_hexdigit)))) (entity_form entities))
-    (word (codes ";")))
+    chain_of (word (codes "&")) (chain_of (either_of loose_number (entity_form entities)) (word (codes ";")))
 
 -- all forms at a place; no piece has tokens
 unfoldable pub loose_forms : Table → Place → List Form

@@ -46,7 +46,7 @@ of_quoted between f = both (by 34) (by 39) (one 34 refl) (one 39 refl)
     one q h = more (range q q) (chain_of (between q) (range q q)) (of_word (q ∷ []) h) (more (between q) (range q q) (f q) (of_word (q ∷ []) h))
 
 of_parts : (t : ℕ → Bool) (between : ℕ → Expr) → ((q : ℕ) → Within (between q) Any) → Within (parts_of_tag t between) Any
-of_parts t between f = stars (both (ascii (λ c. in_name c || is_blank c || t c)) (quoted between) (of_ascii (λ c. in_name c || is_blank c || t c)) (of_quoted between f))
+of_parts t between f = stars (both (ascii t) (quoted between) (of_ascii t) (of_quoted between f))
 
 of_then : (c k : ℕ) → are_in any (c ∷ []) ≡ true → Within (bytes_then c k) Any
 of_then c zero h = more (star (range c c)) (byte_of (λ d. not (d == c || d == 62))) (stars (of_word (c ∷ []) h)) (of_byte_of (λ d. not (d == c || d == 62)))
@@ -66,9 +66,9 @@ of_reference =
 
 of_tag : Within coarse_tag Any
 of_tag =
-    more (word (codes "<")) (chain_of (ascii begins_name) (chain_of (parts_of_tag (λ c. c == 61 || c == 47) value_bytes) (word (codes ">")))) (of_word (codes "<") refl)
-    (more (ascii begins_name) (chain_of (parts_of_tag (λ c. c == 61 || c == 47) value_bytes) (word (codes ">"))) (of_ascii begins_name)
-    (more (parts_of_tag (λ c. c == 61 || c == 47) value_bytes) (word (codes ">")) (of_parts (λ c. c == 61 || c == 47) value_bytes (λ q. stars (of_byte_of (λ c. not (c == 60 || c == q))))) (of_word (codes ">") refl)))
+    more (word (codes "<")) (chain_of (ascii begins_name) (chain_of (parts_of_tag (λ c. in_name c || is_blank c || (c == 61 || c == 47)) value_bytes) (word (codes ">")))) (of_word (codes "<") refl)
+    (more (ascii begins_name) (chain_of (parts_of_tag (λ c. in_name c || is_blank c || (c == 61 || c == 47)) value_bytes) (word (codes ">"))) (of_ascii begins_name)
+    (more (parts_of_tag (λ c. in_name c || is_blank c || (c == 61 || c == 47)) value_bytes) (word (codes ">")) (of_parts (λ c. in_name c || is_blank c || (c == 61 || c == 47)) value_bytes (λ q. stars (of_byte_of (λ c. not (c == 60 || c == q))))) (of_word (codes ">") refl)))
 
 of_end_tag : Within coarse_end_tag Any
 of_end_tag =
@@ -96,8 +96,8 @@ of_instruction =
 
 of_doctype : Within coarse_doctype Any
 of_doctype =
-    more (word (codes "<!DOCTYPE")) (chain_of (parts_of_tag (λ c. false) (λ q. star (byte_but q))) (word (codes ">"))) (of_word (codes "<!DOCTYPE") refl)
-    (more (parts_of_tag (λ c. false) (λ q. star (byte_but q))) (word (codes ">")) (of_parts (λ c. false) (λ q. star (byte_but q)) (λ q. stars (of_byte_of (λ d. not (d == q))))) (of_word (codes ">") refl))
+    more (word (codes "<!DOCTYPE")) (chain_of (parts_of_tag (λ c. in_name c || is_blank c) (λ q. star (byte_but q))) (word (codes ">"))) (of_word (codes "<!DOCTYPE") refl)
+    (more (parts_of_tag (λ c. in_name c || is_blank c) (λ q. star (byte_but q))) (word (codes ">")) (of_parts (λ c. in_name c || is_blank c) (λ q. star (byte_but q)) (λ q. stars (of_byte_of (λ d. not (d == q))))) (of_word (codes ">") refl))
 
 of_form : Within coarse_form Any
 unfolding coarse_form

@@ -253,19 +253,19 @@ literal q = star (byte_but q)
 
 -- what may stand in a document type declaration
 abbrev Part : Expr
-Part = either_of (ascii (λ c. in_name c || is_blank c || false)) (quoted literal)
+Part = either_of (ascii (λ c. in_name c || is_blank c)) (quoted literal)
 
-part_of_ascii : (t : ℕ → Bool) → ((c : ℕ) → t c ≡ true → (in_name c || is_blank c || false) ≡ true) → Within (ascii t) (star Part)
-part_of_ascii t f = further (further (in_ascii t (λ c. in_name c || is_blank c || false) f) (in_left (ascii (λ c. in_name c || is_blank c || false)) (quoted literal) (own (ascii (λ c. in_name c || is_blank c || false))))) (once Part)
+part_of_ascii : (t : ℕ → Bool) → ((c : ℕ) → t c ≡ true → (in_name c || is_blank c) ≡ true) → Within (ascii t) (star Part)
+part_of_ascii t f = further (further (in_ascii t (λ c. in_name c || is_blank c) f) (in_left (ascii (λ c. in_name c || is_blank c)) (quoted literal) (own (ascii (λ c. in_name c || is_blank c))))) (once Part)
 
 part_of_quotes : (between : ℕ → Expr) → Within (between 34) (literal 34) → Within (between 39) (literal 39) → Within (quoted between) (star Part)
-part_of_quotes between f g = further (further (quotes between literal f g) (in_right (ascii (λ c. in_name c || is_blank c || false)) (quoted literal) (own (quoted literal)))) (once Part)
+part_of_quotes between f g = further (further (quotes between literal f g) (in_right (ascii (λ c. in_name c || is_blank c)) (quoted literal) (own (quoted literal)))) (once Part)
 
-named_part : (c : ℕ) → in_name c ≡ true → (in_name c || is_blank c || false) ≡ true
-named_part c h = or_left (in_name c || is_blank c) false (or_left (in_name c) (is_blank c) h)
+named_part : (c : ℕ) → in_name c ≡ true → (in_name c || is_blank c) ≡ true
+named_part c h = or_left (in_name c) (is_blank c) h
 
-blank_part : (c : ℕ) → is_blank c ≡ true → (in_name c || is_blank c || false) ≡ true
-blank_part c h = or_left (in_name c || is_blank c) false (or_right (in_name c) (is_blank c) h)
+blank_part : (c : ℕ) → is_blank c ≡ true → (in_name c || is_blank c) ≡ true
+blank_part c h = or_right (in_name c) (is_blank c) h
 
 blanks_part : Within blanks (star Part)
 blanks_part = stars (part_of_ascii is_blank blank_part)

@@ -86,12 +86,12 @@ of_reference =
     other b h = grind (arith, nat_tests)
 
 -- what stands in a tag leaves it open
-of_parts : (test : ℕ → Bool) (between : ℕ → Expr) → ((b : ℕ) → (in_name b || is_blank b || test b) ≡ true → (b == 62) ≡ false) → ((b : ℕ) → (in_name b || is_blank b || test b) ≡ true → is_quote b ≡ false)
+of_parts : (test : ℕ → Bool) (between : ℕ → Expr) → ((b : ℕ) → test b ≡ true → (b == 62) ≡ false) → ((b : ℕ) → test b ≡ true → is_quote b ≡ false)
     → ((q : ℕ) → is_quote q ≡ true → Leads (between q) (in_tag (Some q)) (in_tag (Some q))) → Leads (parts_of_tag test between) (in_tag None) (in_tag None)
 of_parts test between greater quote stays =
-    leads_star (either_of (ascii (λ c. in_name c || is_blank c || test c)) (quoted between))
-    (leads_either (ascii (λ c. in_name c || is_blank c || test c)) (quoted between)
-    (leads_ascii (λ c. in_name c || is_blank c || test c) (λ b h rest. if_not (b == 62) _ _ (greater b h) ∙ if_not (is_quote b) _ _ (quote b h)))
+    leads_star (either_of (ascii test) (quoted between))
+    (leads_either (ascii test) (quoted between)
+    (leads_ascii test (λ b h rest. if_not (b == 62) _ _ (greater b h) ∙ if_not (is_quote b) _ _ (quote b h)))
     (leads_quoted between (λ q. in_tag (Some q)) (λ q h rest. if_not (q == 62) _ _ (no_greater q h) ∙ if_so (is_quote q) _ _ h) stays (λ q h rest. if_so (q == q) _ _ (own q))))
   where
     no_greater : (q : ℕ) → is_quote q ≡ true → (q == 62) ≡ false
@@ -101,7 +101,7 @@ of_parts test between greater quote stays =
     own q = grind (arith, nat_tests)
 
 abbrev tag_test : ℕ → Bool
-tag_test c = c == 61 || c == 47
+tag_test c = in_name c || is_blank c || (c == 61 || c == 47)
 
 of_tag : Leads coarse_tag scan done
 of_tag =
@@ -225,13 +225,13 @@ literal q = star (byte_but q)
 
 of_doctype : Leads coarse_doctype scan done
 of_doctype =
-    leads_chain (word (codes "<!DOCTYPE")) (chain_of (parts_of_tag (λ c. false) literal) (word (codes ">"))) (leads_word (codes "<!DOCTYPE") (λ rest. refl))
-    (leads_chain (parts_of_tag (λ c. false) literal) (word (codes ">")) (of_parts (λ c. false) literal greater quote in_literal) (leads_word (codes ">") (λ rest. refl)))
+    leads_chain (word (codes "<!DOCTYPE")) (chain_of (parts_of_tag end_test literal) (word (codes ">"))) (leads_word (codes "<!DOCTYPE") (λ rest. refl))
+    (leads_chain (parts_of_tag end_test literal) (word (codes ">")) (of_parts end_test literal greater quote in_literal) (leads_word (codes ">") (λ rest. refl)))
   where
-    greater : (b : ℕ) → (in_name b || is_blank b || false) ≡ true → (b == 62) ≡ false
+    greater : (b : ℕ) → (in_name b || is_blank b) ≡ true → (b == 62) ≡ false
     greater b h = grind (arith, nat_tests)
 
-    quote : (b : ℕ) → (in_name b || is_blank b || false) ≡ true → is_quote b ≡ false
+    quote : (b : ℕ) → (in_name b || is_blank b) ≡ true → is_quote b ≡ false
     quote b h = grind (arith, nat_tests)
 
     small : (q : ℕ) → is_quote q ≡ true → q < 128

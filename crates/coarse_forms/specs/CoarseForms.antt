@@ -1,6 +1,6 @@
 -- The coarse pieces of a page: what each loose piece is made of, whatever the definition, with no look at names, numbers, values and
 -- characters. A weaker form of XML 1.0, 2.4 to 2.8, 3.1 and 4.1.
-use Rattle.std.specs.Prelude.{ℕ, zero, suc, Bool, false, not, ◌==◌, ◌||◌, codes}
+use Rattle.std.specs.Prelude.{ℕ, zero, suc, Bool, not, ◌==◌, ◌||◌, codes}
 use Rattle.xml_text.specs.Characters.{is_blank}
 use Rattle.xml_text.specs.Names.{begins_name, in_name}
 use Rattle.derivatives.specs.Expressions.{Expr, range, star}
@@ -25,9 +25,9 @@ text_byte = byte_of (λ c. not (c == 60 || c == 38))
 abbrev pub coarse_reference : Expr
 coarse_reference = chain_of (word (codes "&")) (chain_of (star (ascii (λ c. in_name c || c == 35))) (word (codes ";")))
 
--- bytes of names and of white space, these two, and texts in quotes
+-- bytes of ASCII that pass a test, and texts in quotes
 abbrev pub parts_of_tag : (ℕ → Bool) → (ℕ → Expr) → Expr
-parts_of_tag other between = star (either_of (ascii (λ c. in_name c || is_blank c || other c)) (quoted between))
+parts_of_tag test between = star (either_of (ascii test) (quoted between))
 
 -- the bytes of a value in these quotes (XML 1.0, 2.3, AttValue)
 abbrev pub value_bytes : ℕ → Expr
@@ -37,7 +37,7 @@ value_bytes q = star (byte_of (λ c. not (c == 60 || c == q)))
 abbrev pub coarse_tag : Expr
 coarse_tag =
     chain_of (word (codes "<"))
-    (chain_of (ascii begins_name) (chain_of (parts_of_tag (λ c. c == 61 || c == 47) value_bytes) (word (codes ">"))))
+    (chain_of (ascii begins_name) (chain_of (parts_of_tag (λ c. in_name c || is_blank c || (c == 61 || c == 47)) value_bytes) (word (codes ">"))))
 
 -- `</`, bytes of names and white space, `>`
 abbrev pub coarse_end_tag : Expr
@@ -66,10 +66,14 @@ abbrev pub coarse_instruction : Expr
 coarse_instruction =
     chain_of (word (codes "<?")) (chain_of name_form (either_of (word (codes "?>")) (chain_of (ascii is_blank) (bytes_up_to 63 1))))
 
+-- the bytes of a literal in these quotes
+abbrev pub literal_bytes : ℕ → Expr
+literal_bytes q = star (byte_but q)
+
 -- `<!DOCTYPE`, bytes of names, white space and literals, `>`
 abbrev pub coarse_doctype : Expr
 coarse_doctype =
-    chain_of (word (codes "<!DOCTYPE")) (chain_of (parts_of_tag (λ c. false) (λ q. star (byte_but q))) (word (codes ">")))
+    chain_of (word (codes "<!DOCTYPE")) (chain_of (parts_of_tag (λ c. in_name c || is_blank c) literal_bytes) (word (codes ">")))
 
 -- one of them
 unfoldable pub coarse_form : Expr
