@@ -128,8 +128,7 @@ attributes_from : (all : List Attribute) (rest : List ℕ) → AreLooseAttribute
 attributes_from [] rest l h = ([], over, refl, h)
 attributes_from (a ∷ more) rest l h =
     let v = value_bytes_of a (attributes_then more rest) h in
-    let k = attributes_from more rest l.1 v.1 in
-    (
+    let k = attributes_from more rest l.1 v.1 in (
       attribute_then a [] ++ k.0,
       further (record { attribute = a; loose = l.0; bytes = v.0; is = refl }) k.1,
       append_assoc (attribute_then a []) k.0 rest ∙ ap (λ (z : List ℕ). attribute_then a [] ++ z) k.2 ∙ attribute_more a (attributes_then more rest),

@@ -42,8 +42,8 @@ module _ {Q : Type 0} (l : Language Place Q PageToken) (a : Arena) (starts : Pla
       t = (tokens_are_read l (way_reader a starts) (pieces_are_read l a starts h) at_beginning page (put page)).1 refl
 
       at : (rest : List ℕ) → spelled_then l t.pieces rest ≡ page → put page ≡ left_tokens (way_reader a starts).bad rest → Tells (IsCut l page → ⊥) (put page)
-      at [] s e = (true, e, λ none. absurd (none (t.pieces, t.lawful, s)), λ z. cc)
-      at (b ∷ bs) s e = (false, e, λ none. refl, λ z c. let w : told true ≡ told false = sym (cut_puts_nothing page c) ∙ e in cc)
+      at [] s e = (true, e, (λ none. absurd (none (t.pieces, t.lawful, s)), λ z. cc))
+      at (b ∷ bs) s e = (false, e, (λ none. refl, λ z c. let w : told true ≡ told false = sym (cut_puts_nothing page c) ∙ e in cc))
 
   pub tells_cuts : (page : List ℕ) → All (λ byte. byte < 256) page → Tells (IsCut l page → ⊥) (way_tokens a starts page)
   tells_cuts page bytes = let t = tells_put page in (t.0, puts_the_same a starts page bytes ∙ t.1, t.2)
