@@ -23,4 +23,5 @@ pub use laws::{
     normal_forms_match_as_plain_ones, numbers_go_on_to_stand, only_nothing_fails,
     what_fails_fails_at_once, what_is_made_stays_normal, what_may_end_matches_the_empty_text,
 };
+pub use node::Node;
 pub use steps::Steps;

@@ -50,7 +50,7 @@ impl Arena {
     }
 
     /// The node with this number.
-    pub(crate) fn node(&self, place: usize) -> Node
+    pub fn node(&self, place: usize) -> Node
         requires { place < count_of self.now }
         ensures at { slice_get self.now.nodes.keys place ≡ Some result }
         ensures below { AreBelow place result }

@@ -3,3 +3,4 @@ pub mod Fits
 pub mod Behind
 pub mod InTurn
 pub mod Alike
+pub mod Rows

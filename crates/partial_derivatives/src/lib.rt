@@ -6,10 +6,16 @@
 //! Used by: way_reader.
 #![tactic(auto)]
 
+mod copying;
+mod ending;
 mod laws;
 mod part;
 mod row;
+mod taking;
 
+pub use copying::copy_parts;
+pub use ending::{all_end, last_in_turn};
 pub use laws::{bytes_are_taken_in_turn, classes_are_taken_in_turn, parts_end_in_turn};
 pub use part::{Member, Part};
 pub use row::Row;
+pub use taking::Taking;

@@ -2,3 +2,5 @@ pub mod Exactness
 pub mod Ways
 pub mod Laws
 pub mod Cuts
+pub mod Reader
+pub mod Classes

@@ -6,7 +6,11 @@
 #![tactic(auto)]
 
 mod laws;
+mod moving;
+mod reader;
+mod running;
 mod way;
 
 pub use laws::{pages_are_read, puts_the_same, ways_are_read, whole_forms_have_texts};
+pub use reader::{PieceWays, Starts, WayReader};
 pub use way::{Spot, Way, WayState};

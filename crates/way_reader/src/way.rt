@@ -1,10 +1,12 @@
 //! Ways in which a piece can go on, and the states of the reader.
 
+ghost use Rattle.std.specs.Prelude.{◌≡◌, IfOk};
 ghost use Rattle.way_reader.specs.Exactness.{exact_way, exact_state};
 
 use byte_readers::Emit;
-use partial_derivatives::{Part, Row};
-use text_base::Exact;
+use partial_derivatives::{Part, Row, copy_parts};
+use std::alloc::Global;
+use text_base::{Exact, NoMemory};
 
 /// Where a piece begins.
 #[derive(Clone, Copy, Debug, PartialEq, Eq, Hash)]
@@ -44,4 +46,41 @@ pub enum WayState {
 
 impl Exact for WayState {
     ghost exact = { exact_state };
+}
+
+impl Way {
+    /// The same way once more.
+    fn copy(&self, alloc: Global) -> Result<Way, NoMemory>
+        ensures { IfOk result (λ way. way ≡ self.now) }
+    {
+        Ok(Way {
+            parts: copy_parts(alloc, self.parts.as_slice())?,
+            emit: self.emit,
+            to: self.to,
+        })
+    }
+}
+
+/// The same ways once more.
+fn copy_ways(alloc: Global, ways: &[Way]) -> Result<Row<Way>, NoMemory>
+    ensures { IfOk result (λ row. row ≡ ways.now) }
+{
+    let mut row = Row::new(alloc);
+    for way in ways {
+        row.push(way.copy(alloc)?)?;
+    }
+    Ok(row)
+}
+
+impl WayState {
+    /// The same state once more.
+    pub fn copy(&self, alloc: Global) -> Result<WayState, NoMemory>
+        ensures { IfOk result (λ s. s ≡ self.now) }
+    {
+        match self {
+            WayState::Failed => Ok(WayState::Failed),
+            WayState::At(spot) => Ok(WayState::At(*spot)),
+            WayState::Inside(ways) => Ok(WayState::Inside(copy_ways(alloc, ways.as_slice())?)),
+        }
+    }
 }
