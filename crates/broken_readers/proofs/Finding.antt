@@ -1,7 +1,7 @@
 -- The machines of the readers find broken pages, and all of them.
 use Rattle.std.specs.Prelude.{◌≡◌, ◌↔◌, ◌<◌, ℕ, Bool, true, false, ◌||◌, List, [], ◌∷◌, All, Option, Some, None, refl}
 use Rattle.std.specs.List.{list_all, list_any}
-use Rattle.std.proofs.Common.{ap, sym, subst, ◌∙◌}
+use Rattle.std.proofs.Common.{ap, sym, subst, ◌∙◌, true≢false}
 use Rattle.text_base.specs.declared.page_token.PageToken.{PageToken}
 use Rattle.text_base.specs.declared.page_token.PageToken.TheVariants.{Doctype, Start, End, Blank, Text, Misc, Bad}
 use Rattle.dtd_model.specs.Table.{Table}
@@ -19,6 +19,7 @@ use Rattle.summary_decision.specs.Pairs.{tokens_in}
 use Rattle.page_decision.specs.declared.goal.Goal as goals
 use Rattle.page_decision.specs.Goals.{IsGood}
 use Rattle.page_decision.specs.Machines.{IsBrokenMachine, is_no_tag, PutsNoTags}
+use Rattle.page_decision.specs.PageVerdicts.{AreAllNested}
 use Rattle.echoing_machine.specs.Echoes.{echo_of, IsEcho}
 use Rattle.echoing_machine.proofs.EchoLemmas.{is_echo}
 use Rattle.form_reader.specs.FormReader.{form_reader}
@@ -82,6 +83,13 @@ loose_puts_no_tags tells table a starts f page tokens bytes put = untagged a sta
 
 pub coarse_puts_no_tags : CoarseTellsBroken → (a : Arena) (starts : Place → List Way) → HaveTexts coarse_forms a starts → PutsNoTags (λ page. All (λ byte. byte < 256) page) (WayPuts a starts)
 coarse_puts_no_tags tells a starts f page tokens bytes put = untagged a starts page tokens (tells a starts f page bytes) put
+
+-- where all that the machine of the coarse form puts out is nested, no page is coarsely broken
+pub none_coarse : CoarseMissesNone → (a : Arena) (starts : Place → List Way) → HaveTexts coarse_forms a starts → (IsPage : List ℕ → Type 0) → ((page : List ℕ) → IsPage page → All (λ byte. byte < 256) page)
+    → AreAllNested IsPage (WayPuts a starts) → (page : List ℕ) → IsPage page → IsCoarselyBroken page → ⊥
+none_coarse misses a starts f IsPage fits all page is broken =
+    let h = all page is in
+    true≢false (sym h.sum ∙ (misses a starts f page h.tokens (fits page is) h.has).1 broken)
 
 -- No token of a tree is bad.
 
