@@ -23,6 +23,7 @@ use Rattle.page_forms.proofs.OneCharacter.{spells_character}
 use Rattle.page_forms.proofs.Spelling.{ascii_bytes}
 use Rattle.page_forms.proofs.WordForms.{name_ascii}
 use Rattle.coarse_forms.specs.CoarseForms.{byte_of, byte_but, text_byte, coarse_reference, parts_of_tag, value_bytes, coarse_tag, coarse_end_tag, coarse_comment, bytes_then, bytes_up_to, coarse_section, coarse_instruction, coarse_doctype, coarse_form}
+use Rattle.coarse_forms.specs.Laws.{LawfulAreCoarse}
 use Rattle.coarse_forms.proofs.Within.{Within, own, further, in_chain, in_left, in_right, both, to_left, to_right, of_word, word_apart, once, never, stars, more, before, none_before, in_ascii, ascii_in, are_in, word_in, character_in, characters_in, quotes}
 
 -- what is left of a test of a character
@@ -391,3 +392,13 @@ references_coarse = in_right text_byte From2 (in_left coarse_reference From3 (ow
 pub text_coarse : Within (star text_byte) (star coarse_form)
 unfolding coarse_form
 text_coarse = stars (further (in_left text_byte From2 (own text_byte)) (once coarse_form))
+
+pub lawful_are_coarse : LawfulAreCoarse
+lawful_are_coarse = record {
+  comments = comments_coarse.goes;
+  sections = sections_coarse.goes;
+  instructions = instructions_coarse.goes;
+  declarations = declarations_coarse.goes;
+  doctypes = λ rule. (doctypes_coarse rule).goes;
+  characters = λ c h. text_coarse.goes (encode_utf8_all (c ∷ [])) (plain_within c h);
+}
