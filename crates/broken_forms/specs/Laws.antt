@@ -27,7 +27,8 @@ IsLooseFormOf e IsOne = (bytes : List ℕ) → Matches e bytes ↔ ((p : Piece) 
 -- the loose tags of declared elements (XML 1.0, 3.1)
 abbrev pub LooseTagsAreSpelled : Type 0
 LooseTagsAreSpelled = (table : Table)
-    → IsLooseFormOf (loose_tag_form (names_of table)) (λ p. (tag : Tag) × ((p ≡ start_tag tag) ⊎ (p ≡ empty_tag tag)) × IsLooseTag table tag)
+    → IsLooseFormOf (loose_tag_form (names_of table))
+    (λ p. (tag : Tag) × ((p ≡ start_tag tag) ⊎ (p ≡ empty_tag tag)) × IsLooseTag table tag)
 
 -- the end tags of declared elements (XML 1.0, 3.1)
 abbrev pub EndsAreSpelled : Type 0
@@ -39,11 +40,17 @@ EndsAreSpelled = (table : Table)
 -- the references to entities that are known, and by any numbers (XML 1.0, 4.1)
 abbrev pub LooseReferencesAreSpelled : Type 0
 LooseReferencesAreSpelled = (table : Table)
-    → IsLooseFormOf (loose_reference_form table.entities) (λ p. (r : Reference) × (p ≡ leaf (reference r)) × (is_loose_reference table r ≡ true))
+    → IsLooseFormOf (loose_reference_form table.entities)
+    (λ p. (r : Reference) × (p ≡ leaf (reference r)) × (is_loose_reference table r ≡ true))
 
 -- the loose pieces of a page as a language of bytes, of which each has no tokens
 abbrev pub loose_language : Table → Language Place Piece PageToken
-loose_language table = record { Lawful = λ place p. IsLoose table place p × OfBytes (loose_bytes p); spell = loose_bytes; after = after; tokens = λ p. [] }
+loose_language table = record {
+  Lawful = λ place p. IsLoose table place p × OfBytes (loose_bytes p);
+  spell = loose_bytes;
+  after = after;
+  tokens = λ p. [];
+}
 
 -- the texts of the forms at a place are the loose pieces there, with the place behind them
 abbrev pub LoosePiecesAreSpelled : Type 0

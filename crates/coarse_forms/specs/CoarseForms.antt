@@ -37,7 +37,8 @@ value_bytes q = star (byte_of (λ c. not (c == 60 || c == q)))
 abbrev pub coarse_tag : Expr
 coarse_tag =
     chain_of (word (codes "<"))
-    (chain_of (ascii begins_name) (chain_of (parts_of_tag (λ c. in_name c || is_blank c || (c == 61 || c == 47)) value_bytes) (word (codes ">"))))
+    (chain_of (ascii begins_name)
+    (chain_of (parts_of_tag (λ c. in_name c || is_blank c || (c == 61 || c == 47)) value_bytes) (word (codes ">"))))
 
 -- `</`, bytes of names and white space, `>`
 abbrev pub coarse_end_tag : Expr
