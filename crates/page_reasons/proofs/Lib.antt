@@ -1,0 +1,4 @@
+pub mod Children
+pub mod Linking
+pub mod Misplacing
+pub mod Walking

@@ -1,5 +1,5 @@
 -- What is wrong with an attribute of a start tag, and how far the tag is there (XML 1.0, 3.1 and 3.3).
-use Rattle.std.specs.Prelude.{◌≡◌, ℕ, Bool, true, false, ◌==◌, ◌&&◌, ◌||◌, List, [], ◌∷◌, codes, nat_eq, Option, Some, None}
+use Rattle.std.specs.Prelude.{◌≡◌, ℕ, Bool, true, false, ◌==◌, ◌&&◌, ◌||◌, List, [], ◌∷◌, codes, Option, Some, None}
 use Rattle.std.specs.List.{list_all, list_any}
 use Rattle.xml_text.specs.Characters.{is_blank, is_character}
 use Rattle.dtd_model.specs.References.{is_reference, is_known}
@@ -78,7 +78,7 @@ IsWrong entities rules done left name behind wrong.NoSpace = HasWrong left (λ a
 -- a character that XML does not have (2.2, Char)
 IsWrong entities rules done left name behind wrong.NotCharacter = HasWrong left (λ a. list_all is_character a.value ≡ false)
 -- `<` in the value (2.3, AttValue)
-IsWrong entities rules done left name behind wrong.LessThan = HasWrong left (λ a. list_any (nat_eq 60) a.value ≡ true)
+IsWrong entities rules done left name behind wrong.LessThan = HasWrong left (λ a. list_any (λ c. c == 60) a.value ≡ true)
 -- `&` in the value that begins no reference (2.3, AttValue)
 IsWrong entities rules done left name behind wrong.NotReference = HasWrong left (λ a. refers_by is_reference a.value ≡ false)
 -- a reference in the value to an entity that is not declared (4.1, Entity Declared)

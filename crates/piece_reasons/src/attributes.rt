@@ -1,6 +1,6 @@
 //! An attribute of a tag, in the order in which its reasons are looked for.
 
-ghost use Rattle.std.specs.Prelude.{◌≡◌, ℕ, List, IfOk, IfSome, MatchResult, map, nat_eq};
+ghost use Rattle.std.specs.Prelude.{◌≡◌, ◌==◌, ℕ, List, IfOk, IfSome, MatchResult, map};
 ghost use Rattle.std.specs.List.{list_all, list_any};
 ghost use Rattle.xml_text.specs.Characters as characters;
 ghost use Rattle.xml_text.specs.Characters.{is_blank};
@@ -124,7 +124,7 @@ fn are_characters(cs: &[char]) -> bool
 }
 
 fn has_less_than(cs: &[char]) -> bool
-    ensures { result ≡ list_any (nat_eq 60) cs.now }
+    ensures { result ≡ list_any (λ c. c == 60) cs.now }
 {
     cs.iter().any(|c| *c == '<')
 }
