@@ -1,7 +1,8 @@
 -- The pass over a page: what is sound so far, and one piece more.
-use Rattle.std.proofs.Common.{◌≡◌, ℕ, ◌+◌, ◌≤◌, List, [], ◌∷◌, ◌++◌, Option, Some, None, refl, sym, ◌∙◌, ap, subst, length, length-append, append_assoc, arith}
+use Rattle.std.proofs.Common.{◌≡◌, ℕ, ◌+◌, ◌≤◌, Bool, true, false, List, [], ◌∷◌, ◌++◌, Option, Some, None, refl, sym, ◌∙◌, ap, subst, length, length-append, append_assoc, arith}
 use Rattle.std.specs.Str.{encode_utf8_all}
 use Rattle.std.proofs.lemmas.Str.{encodes-append}
+use Rattle.text_base.specs.declared.numbers.Elem.{Elem}
 use Rattle.text_base.specs.declared.page_token.PageToken.{PageToken}
 use Rattle.content_automata.specs.Tables as automata
 use Rattle.dtd_model.specs.Table.{Table}
@@ -12,13 +13,21 @@ use Rattle.page_model.specs.PageTokens.{AreLawful, IsLawful, piece_bytes, piece_
 use Rattle.page_model.specs.Pieces.{Piece, piece_then, pieces_then, after, after_all}
 use Rattle.page_model.specs.Places.{Place, at_beginning}
 use Rattle.page_model.specs.Scan.{then_some}
-use Rattle.page_validator.specs.Machine.{State, step}
+use Rattle.page_validator.specs.Machine.{Stage, before_type, behind_type, root_begun, Open, State, is_done, start, step}
 use Rattle.page_validator.specs.Walks.{moved}
+use Rattle.piece_reasons.specs.declared.reasons.PieceReason.{PieceReason}
+use Rattle.piece_reasons.specs.Causes.{IsCause}
+use Rattle.page_reasons.specs.declared.reasons.EndReason.{EndReason}
+use Rattle.page_reasons.specs.declared.reasons.EndReason.TheVariants as end_reason
+use Rattle.page_reasons.specs.declared.reasons.OrderReason.{OrderReason}
+use Rattle.page_reasons.specs.declared.reasons.Reason.TheVariants as reason
 use Rattle.page_reasons.specs.Branches.{Branch, grown, grown_by, Stands, AllStand}
 use Rattle.page_reasons.specs.Faults.{IsSound, NoPieceAt, IsOutOfOrder, HoldsAt, IsFaultOf}
-use Rattle.page_reasons.specs.Links.{IsBuilt, Linked, behind_token, behind_tokens}
+use Rattle.page_reasons.specs.Links.{IsBuilt, Linked, behind_token, behind_tokens, first_or_none}
+use Rattle.page_reasons.specs.Misplaced.{IsMisplaced, IsUnfinished}
 use Rattle.page_reasons.specs.Seen.{Seen, seen_behind, seen_by, nothing_seen, PiecesStand}
 use Rattle.page_reasons.proofs.Linking.{On, on}
+use Rattle.page_reasons.proofs.Misplacing.{no_levels, innermost}
 
 -- the tokens may stand in turn, and the state behind them is that of the tree behind them
 pub record Onward (d : Table) (t : automata.Table) (at : ℕ) (ats : List ℕ) (b : Branch) (tokens : List PageToken) (new : State) : Type 0 where
@@ -112,3 +121,70 @@ no_piece d place cs none p rest l e =
     let z : Piece × List ℕ = (p, rest) in
     let f : None ≡ Some z = sym none ∙ sym (ap (cut_at d place) e) ∙ cut_read d place p rest l in
     cc
+
+-- at the beginning of a page
+pub begin : (d : Table) (t : automata.Table) (cs : List ℕ) → Reached d t cs at_beginning start [] 0 cs
+begin d t cs = record {
+  pieces = [];
+  lawful = tt;
+  stand = tt;
+  spelled = refl;
+  place_is = refl;
+  at_is = refl;
+  linked = record { stage = refl; levels = (refl, refl); begun = λ some. absurd (some refl) };
+  bytes = omega arith;
+}
+
+-- The faults.
+
+pub piece_fault : (d : Table) (t : automata.Table) (cs : List ℕ) (place : Place) (state : State) (ats : List ℕ) (at : ℕ) (rest : List ℕ) (size : ℕ) (why : PieceReason) → Reached d t cs place state ats at rest → length (encode_utf8_all cs) ≡ size
+    → cut_at d place rest ≡ None → IsCause d size place rest why → IsFaultOf d (encode_utf8_all cs) (record { at = at; reason = reason.Piece why })
+piece_fault d t cs place state ats at rest size why r long none cause =
+    IsFaultOf.found at (reason.Piece why) r.pieces rest (sound d t cs place state ats at rest r) (
+      subst (λ (q : Place). NoPieceAt d q rest) r.place_is (no_piece d place rest none),
+      subst (λ (q : Place). IsCause d (length (encode_utf8_all cs)) q rest why) r.place_is (subst (λ (n : ℕ). IsCause d n place rest why) (sym long) cause),
+    )
+
+pub order_fault : (d : Table) (t : automata.Table) (cs : List ℕ) (place : Place) (state : State) (ats : List ℕ) (at : ℕ) (rest : List ℕ) (p : Piece) (left : List ℕ) (why : OrderReason) (r : Reached d t cs place state ats at rest)
+    → (let z : Piece × List ℕ = (p, left) in cut_at d place rest ≡ Some z) → ((b : Branch) → Linked d t state ats b → IsOutOfOrder d at b (piece_tokens d p) why)
+    → IsFaultOf d (encode_utf8_all cs) (record { at = at; reason = reason.Order why })
+order_fault d t cs place state ats at rest p left why r cut cause =
+    let c = cut_is d place rest (p, left) cut in
+    IsFaultOf.found at (reason.Order why) r.pieces rest (sound d t cs place state ats at rest r) (
+      p,
+      left,
+      subst (λ (q : Place). IsLawful d q p) r.place_is c.lawful,
+      c.is,
+      cause (seen_by d nothing_seen r.pieces).branch r.linked,
+    )
+
+pub end_fault : (d : Table) (t : automata.Table) (cs : List ℕ) (place : Place) (state : State) (ats : List ℕ) (at : ℕ) (rest : List ℕ) (why : EndReason) (r : Reached d t cs place state ats at rest) → rest ≡ []
+    → ((b : Branch) → Linked d t state ats b → IsUnfinished at b why) → IsFaultOf d (encode_utf8_all cs) (record { at = at; reason = reason.End why })
+end_fault d t cs place state ats at rest why r none cause =
+    IsFaultOf.found at (reason.End why) r.pieces rest (sound d t cs place state ats at rest r) (none, cause (seen_by d nothing_seen r.pieces).branch r.linked)
+
+-- Tokens in turn.
+
+-- the first of the tokens may not stand there
+pub first_out : (d : Table) (at : ℕ) (b : Branch) (tok : PageToken) (more : List PageToken) (why : OrderReason) → IsMisplaced d b tok why → IsOutOfOrder d at b (tok ∷ more) why
+first_out d at b tok more why m = record { before = []; tok = tok; more = more; are = refl; stand = tt; misplaced = m }
+
+-- the second may not stand there
+pub second_out : (d : Table) (at : ℕ) (b : Branch) (first tok : PageToken) (why : OrderReason) → Stands d b first → IsMisplaced d (grown at b first) tok why → IsOutOfOrder d at b (first ∷ tok ∷ []) why
+second_out d at b first tok why s m = record { before = first ∷ []; tok = tok; more = []; are = refl; stand = (s, tt); misplaced = m }
+
+-- Where the page ends.
+
+pub not_done : (stage : Stage) (o : Open) (os : List Open) → is_done stage (o ∷ os) ≡ false
+not_done before_type o os = refl
+not_done behind_type o os = refl
+not_done root_begun o os = refl
+
+pub still_open : (d : Table) (t : automata.Table) (state : State) (ats : List ℕ) (b : Branch) (bytes : ℕ) (e : Elem) (s at : ℕ) (os : List Open) → Linked d t state ats b → state.1 ≡ (e.0, s) ∷ os → at ≡ first_or_none ats
+    → IsUnfinished bytes b (end_reason.StillOpen e at)
+still_open d t state ats b bytes e s at os l is place =
+    let i = innermost d t state ats b (e.0, s) os l is in
+    (i.level, i.outer, (i.are, sym i.linked.element), sym (place ∙ ap first_or_none i.begin))
+
+pub no_root : (d : Table) (t : automata.Table) (state : State) (ats : List ℕ) (b : Branch) (bytes : ℕ) → Linked d t state ats b → state.1 ≡ [] → (state.0 ≡ root_begun → ⊥) → IsUnfinished bytes b end_reason.NoRoot
+no_root d t state ats b bytes l n not = (no_levels d t state ats b l n, λ e. not (l.stage ∙ e))

@@ -1,7 +1,7 @@
 //! Why a page is not valid, and the byte at which that shows.
 //! Promise: `reason_of` answers none only where the page is `Valid` (page_model), and a fault only
 //! where it is not, with its cause (`IsFaultOf` of specs/Faults).
-//! Used by: dtd_tests.
+//! Used by: none yet.
 #![tactic(auto)]
 
 mod heads;
