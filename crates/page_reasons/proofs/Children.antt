@@ -50,7 +50,7 @@ has_step d t o l e b k lt f =
     let r = declared d l.element k.declared in
     let es = l.children ++ e ∷ [] in
     let s = (b.goes_on l.element r.0 r.1 es (one_element_more (length d.elements) e l.children k.children lt)).1
-        (f.0, f.1, ap (λ (x : Holding). matches (length d.elements) x (es ++ f.0)) (sym (holding_is d l.element r.0 r.1)) ∙ f.2) in
+    (f.0, f.1, ap (λ (x : Holding). matches (length d.elements) x (es ++ f.0)) (sym (holding_is d l.element r.0 r.1)) ∙ f.2) in
     (s.0, sym (run_one t (first_at t l.element) o.1 e l.children k.state) ∙ s.1)
 
 -- the state behind the children ends exactly where they are complete

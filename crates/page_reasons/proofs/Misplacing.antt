@@ -55,7 +55,7 @@ pub not_root : (d : Table) (t : automata.Table) (state : State) (ats : List ℕ)
 not_root d t state ats b e why l n lt h told =
     let s : State = (root_begun, (e.0, first_at t e.0) ∷ []) in
     let q : (if may_begin d.doctype state.0 && nat_eq e.0 (place_of d.elements (codes "html")) then Some s else None) ≡ None
-        = sym (ap (λ (os : List Open). begun d t state.0 os e.0) n) ∙ begun_none d t state e.0 lt h in
+    = sym (ap (λ (os : List Open). begun d t state.0 os e.0) n) ∙ begun_none d t state e.0 lt h in
     told (no_state (may_begin d.doctype state.0 && nat_eq e.0 (place_of d.elements (codes "html"))) s q) b (no_levels d t state ats b l n) l.stage
 
 no_child : (stage : Stage) (e first f : ℕ) (outer : List Open) (o : Option ℕ) → with_child stage e first f outer o ≡ None → o ≡ None

@@ -107,7 +107,7 @@ further d t cs place next state new ats at behind rest p left built r cut move i
       place_is = is ∙ ap (λ (q : Place). after q p) r.place_is ∙ sym (after_more at_beginning r.pieces p);
       at_is = behind_is ∙ ap (λ (n : ℕ). n + length (piece_bytes p)) r.at_is ∙ sym (ap (λ (z : Seen). z.bytes) (seen_more d nothing_seen r.pieces p));
       linked = subst (λ (z : Seen). Linked d t new (behind_tokens at ats (piece_tokens d p)) z.branch) (sym (seen_more d nothing_seen r.pieces p))
-        (subst (λ (n : ℕ). Linked d t new (behind_tokens at ats (piece_tokens d p)) (grown_by n s.branch (piece_tokens d p))) r.at_is o.linked);
+          (subst (λ (n : ℕ). Linked d t new (behind_tokens at ats (piece_tokens d p)) (grown_by n s.branch (piece_tokens d p))) r.at_is o.linked);
       bytes = end;
     }
 

@@ -13,11 +13,7 @@ use std::alloc::Global;
 use text_base::{Elem, NoMemory};
 
 /// The elements that have a step from the state, by their numbers.
-pub fn possible(
-    alloc: Global,
-    rules: &Rules<'_, '_>,
-    state: u16,
-) -> Result<Vec<Elem>, NoMemory>
+pub fn possible(alloc: Global, rules: &Rules<'_, '_>, state: u16) -> Result<Vec<Elem>, NoMemory>
     ensures { IfOk result (λ elements. ArePossible rules.now.contents.now state
         (length (table_in rules.now).elements) elements.items) }
 {
@@ -51,7 +47,13 @@ pub fn no_root(rules: &Rules<'_, '_>, stage: Stage, element: Elem) -> OrderReaso
 pub fn unheld(rules: &Rules<'_, '_>, parent: Elem) -> OrderReason
     ensures { IsUnheld (table_in rules.now) parent result }
 {
-    match rules.indexed.dtd.elements.as_slice().get(usize::from(parent.0)) {
+    match rules
+        .indexed
+        .dtd
+        .elements
+        .as_slice()
+        .get(usize::from(parent.0))
+    {
         None => OrderReason::NotEmpty { parent },
         Some(rule) => unheld_in(&rule.content, parent),
     }

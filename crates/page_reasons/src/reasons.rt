@@ -33,11 +33,17 @@ pub enum OrderReason {
     /// A document type declaration stands behind another one or behind the root's start.
     LateDoctype,
     /// The root begins without a document type declaration before it.
-    NoDoctype { element: Elem },
+    NoDoctype {
+        element: Elem,
+    },
     /// The root is another element than `html`.
-    OtherRoot { element: Elem },
+    OtherRoot {
+        element: Elem,
+    },
     /// An element stands behind the root.
-    SecondRoot { element: Elem },
+    SecondRoot {
+        element: Elem,
+    },
     /// An element may not stand in its parent behind the children before it.
     NotAllowed {
         element: Elem,
@@ -57,11 +63,17 @@ pub enum OrderReason {
         opened: usize,
     },
     /// An end tag stands where no element is open.
-    NothingOpen { element: Elem },
+    NothingOpen {
+        element: Elem,
+    },
     /// Text, a reference or a section stands in an element that holds elements alone.
-    NoText { parent: Elem },
+    NoText {
+        parent: Elem,
+    },
     /// Something stands in an element that has to be empty.
-    NotEmpty { parent: Elem },
+    NotEmpty {
+        parent: Elem,
+    },
     /// Text, a reference or a section stands outside the root.
     TextOutside,
 }

@@ -74,7 +74,10 @@ impl Tree {
             None => None,
         };
         let stage = self.progress.stage;
-        if self.progress.start(rules.indexed.dtd, rules.contents, element)? {
+        if self
+            .progress
+            .start(rules.indexed.dtd, rules.contents, element)?
+        {
             self.opened.push(at)?;
             return Ok(None);
         }

@@ -86,8 +86,7 @@ not_right place cs z read wrong d more h e =
 pub other_doctype : (table : Table) (size : ℕ) (place : Place) (cs : List ℕ) (z : Piece × List ℕ) (why : PieceReason) → piece_at place cs ≡ Some z → is_right place z.0 ≡ true → is_allowed table z.0 ≡ false → IsOther z.0 why → IsCause table size place cs why
 other_doctype table size place cs z _ read right wrong IsOther.nothing = tt
 other_doctype table size place cs z _ read right wrong (IsOther.told d is) =
-    let i = piece_is place cs z read in
-    (
+    let i = piece_is place cs z read in (
       d,
       z.1,
       subst (IsPiece place) is (i.right right),

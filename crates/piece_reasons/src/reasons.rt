@@ -57,7 +57,9 @@ pub enum PieceReason {
     /// No finer reason is known.
     Other,
     /// XML does not have the character at this byte.
-    NotCharacter { at: usize },
+    NotCharacter {
+        at: usize,
+    },
     /// `>` stands behind `]]` in text.
     SectionEnd,
     /// `<` begins no tag, comment, section, instruction or document type declaration.
@@ -65,11 +67,15 @@ pub enum PieceReason {
     /// `&` begins no reference.
     NotReference,
     /// The entity of this name is not declared.
-    EntityNotDeclared { name: Span },
+    EntityNotDeclared {
+        name: Span,
+    },
     /// A comment has no end.
     CommentNotClosed,
     /// `--` at this byte stands in a comment and does not end it.
-    DoubleHyphen { at: usize },
+    DoubleHyphen {
+        at: usize,
+    },
     /// A CDATA section has no end.
     SectionNotClosed,
     /// An instruction has no end.
@@ -85,13 +91,27 @@ pub enum PieceReason {
     /// The document type declaration is none of a root `html` without an internal subset.
     DoctypeNotLawful,
     /// The document type is another one than the definition asks for.
-    OtherDoctype { identifier: IdentifierForm },
+    OtherDoctype {
+        identifier: IdentifierForm,
+    },
     /// The element of this name is not declared; `lower` is the one of its name in small letters.
-    ElementNotDeclared { name: Span, lower: Option<Elem> },
+    ElementNotDeclared {
+        name: Span,
+        lower: Option<Elem>,
+    },
     /// A tag has neither an attribute nor its end at this byte.
-    TagNotClosed { at: usize },
+    TagNotClosed {
+        at: usize,
+    },
     /// What is wrong with the attribute of this name in a tag of the element.
-    Attribute { element: Elem, name: Span, reason: AttributeReason },
+    Attribute {
+        element: Elem,
+        name: Span,
+        reason: AttributeReason,
+    },
     /// The attribute of this number, among those declared for the element, has to stand in its tag.
-    AttributeMissing { element: Elem, attribute: usize },
+    AttributeMissing {
+        element: Elem,
+        attribute: usize,
+    },
 }

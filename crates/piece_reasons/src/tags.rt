@@ -32,11 +32,7 @@ struct OpenTag<'t, 'i, 'd> {
 }
 
 /// Why no lawful start tag or tag of an empty element stands behind `<`.
-pub fn start_tag(
-    alloc: Global,
-    site: &Site<'_, '_>,
-    rest: &[char],
-) -> Result<PieceReason, NoMemory>
+pub fn start_tag(alloc: Global, site: &Site<'_, '_>, rest: &[char]) -> Result<PieceReason, NoMemory>
     ensures { IfOk result (HasCause site.now (60 ∷ rest.now)) }
 {
     let Some((name, behind)) = name(rest) else {
