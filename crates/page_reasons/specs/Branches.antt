@@ -32,7 +32,8 @@ closed (l ∷ outer) = outer
 -- how far it is behind one token more, of a piece that begins at this byte
 abbrev pub grown : ℕ → Branch → PageToken → Branch
 grown at b token.Doctype = record { stage = behind_type; levels = b.levels }
-grown at b (token.Start e) = record { stage = root_begun; levels = record { element = e.0; children = []; at = at } ∷ with_child e.0 b.levels }
+grown at b (token.Start e) =
+    record { stage = root_begun; levels = record { element = e.0; children = []; at = at } ∷ with_child e.0 b.levels }
 grown at b (token.End e) = record { stage = b.stage; levels = closed b.levels }
 grown at b token.Blank = b
 grown at b token.Text = b
@@ -46,7 +47,8 @@ grown_by at b (tok ∷ tokens) = grown_by at (grown at b tok) tokens
 
 -- some list of children that goes on with these is one that the element may have
 abbrev pub GoesOnWith : Table → ℕ → List ℕ → Type 0
-GoesOnWith table e es = (fs : List ℕ) × AreElements (length table.elements) fs × (matches (length table.elements) (holding_at table e) (es ++ fs) ≡ true)
+GoesOnWith table e es = (fs : List ℕ) × AreElements (length table.elements) fs
+    × (matches (length table.elements) (holding_at table e) (es ++ fs) ≡ true)
 
 -- the children of an open element are complete
 abbrev pub IsComplete : Table → Level → Type 0

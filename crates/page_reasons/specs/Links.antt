@@ -83,10 +83,12 @@ behind_tokens at ats (tok ∷ tokens) = behind_tokens at (behind_token at ats to
 
 -- a step over one token, or why there is none
 abbrev pub Steps : Rules → ℕ → Tree → Tree → PageToken → Option OrderReason → Type 0
-Steps rules at old new tok None = (step (table_in rules) rules.contents.now (progress_of old.progress) tok ≡ Some (progress_of new.progress))
+Steps rules at old new tok None =
+    (step (table_in rules) rules.contents.now (progress_of old.progress) tok ≡ Some (progress_of new.progress))
     × (new.opened ≡ behind_token at old.opened tok)
 Steps rules at old new tok (Some why) = (step (table_in rules) rules.contents.now (progress_of old.progress) tok ≡ None)
-    × ((b : Branch) → Linked (table_in rules) rules.contents.now (progress_of old.progress) old.opened b → IsMisplaced (table_in rules) b tok why)
+    × ((b : Branch) → Linked (table_in rules) rules.contents.now (progress_of old.progress) old.opened b
+    → IsMisplaced (table_in rules) b tok why)
 
 -- the byte at which the innermost open element begins; 0 where none is open
 abbrev pub first_or_none : List ℕ → ℕ
@@ -95,7 +97,8 @@ first_or_none (a ∷ ats) = a
 
 -- steps over tokens in turn, or why one of them may not stand there
 abbrev pub Goes : Rules → ℕ → Tree → Tree → List PageToken → Option OrderReason → Type 0
-Goes rules at old new tokens None = (moved (table_in rules) rules.contents.now (progress_of old.progress) tokens ≡ Some (progress_of new.progress))
+Goes rules at old new tokens None =
+    (moved (table_in rules) rules.contents.now (progress_of old.progress) tokens ≡ Some (progress_of new.progress))
     × (new.opened ≡ behind_tokens at old.opened tokens)
 Goes rules at old new tokens (Some why) = (moved (table_in rules) rules.contents.now (progress_of old.progress) tokens ≡ None)
     × ((b : Branch) → Linked (table_in rules) rules.contents.now (progress_of old.progress) old.opened b
@@ -109,7 +112,8 @@ AreDeclared d (tok ∷ tokens) = AreDeclared d tokens
 
 -- exactly the elements for which the state has a step, where so many are declared
 abbrev pub ArePossible : automata.Table → ℕ → ℕ → List Elem → Type 0
-ArePossible t s count elements = (e : ℕ) → Contains (map (λ (x : Elem). x.0) elements) e ↔ ((e < count) × ((n : ℕ) × (next_at t s e ≡ Some n)))
+ArePossible t s count elements =
+    (e : ℕ) → Contains (map (λ (x : Elem). x.0) elements) e ↔ ((e < count) × ((n : ℕ) × (next_at t s e ≡ Some n)))
 
 -- the lawful piece at the head, as its tokens, and what stands behind it; none where there is none
 pub record IsHead (d : Table) (place : Place) (cs : List ℕ) (h : Head) : Type 0 where

@@ -39,8 +39,8 @@ IsMisplaced table b tok (reason.SecondRoot e) = (tok ≡ token.Start e) × (b.le
 IsMisplaced table b tok (reason.NotAllowed e parent may) = (tok ≡ token.Start e) × (l : Level) × (outer : List Level)
     × IsInnermost b parent l outer × (GoesOnWith table l.element (l.children ++ e.0 ∷ []) → ⊥) × AreNext table l may.items
 -- the end of an element whose children are not complete, where it began, and what may stand there (3, Element Valid)
-IsMisplaced table b tok (reason.NotComplete e opened may) = (tok ≡ token.End e) × (l : Level) × (outer : List Level) × IsInnermost b e l outer
-    × (l.at ≡ opened) × (matches (length table.elements) (holding_at table l.element) l.children ≡ false) × AreNext table l may.items
+IsMisplaced table b tok (reason.NotComplete e opened may) = (tok ≡ token.End e) × (l : Level) × (outer : List Level)
+    × IsInnermost b e l outer × (l.at ≡ opened) × (matches (length table.elements) (holding_at table l.element) l.children ≡ false) × AreNext table l may.items
 -- the end tag of another element than the open one, and where that began (3, Element Type Match)
 IsMisplaced table b tok (reason.OtherEnd e «open» opened) = (tok ≡ token.End e) × (l : Level) × (outer : List Level)
     × IsInnermost b «open» l outer × (e.0 ≡ «open».0 → ⊥) × (l.at ≡ opened)

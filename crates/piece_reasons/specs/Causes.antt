@@ -60,7 +60,8 @@ abbrev pub IsCause : Table → ℕ → Place → List ℕ → PieceReason → Ty
 IsCause table size place cs reason.Other = Unit {0}
 -- a character that XML does not have (2.2, Char)
 IsCause table size place cs (reason.NotCharacter at) =
-    (before : List ℕ) × (c : ℕ) × (left : List ℕ) × (cs ≡ before ++ c ∷ left) × (is_character c ≡ false) × (at ≡ place_before size (c ∷ left))
+    (before : List ℕ) × (c : ℕ) × (left : List ℕ) × (cs ≡ before ++ c ∷ left) × (is_character c ≡ false)
+    × (at ≡ place_before size (c ∷ left))
 -- `>` behind `]]` in text (2.4, CharData)
 IsCause table size place cs reason.SectionEnd = (left : List ℕ) × (cs ≡ 62 ∷ left) × (place ≡ behind 2)
 -- `<` that begins no markup
@@ -104,7 +105,8 @@ IsCause table size place cs (reason.ElementNotDeclared name lower) = (at : List 
 -- a tag that does not end where it has to (3.1)
 IsCause table size place cs (reason.TagNotClosed at) = (left : List ℕ) × IsNotClosed cs left × (at ≡ place_before size left)
 -- what is wrong with an attribute of a tag of this element
-IsCause table size place cs (reason.Attribute element name why) = (n : List ℕ) × (done : List Attribute) × (left : List ℕ) × InTag cs n done left
+IsCause table size place cs (reason.Attribute element name why) =
+    (n : List ℕ) × (done : List Attribute) × (left : List ℕ) × InTag cs n done left
     × (rule : Rule) × (find_rule table.elements n ≡ Some rule) × IsElement table.elements n (Some element)
     × (a : List ℕ) × (behind : List ℕ) × IsName (beyond is_blank left) a behind × IsSpan size (beyond is_blank left) behind name
     × IsWrong table.entities rule.attributes done left a behind why

@@ -98,7 +98,8 @@ IsWrong entities rules done left name behind wrong.NotFixed =
 
 -- the whole attribute is wrong for this reason, wherever it stands
 abbrev pub IsWrongWhole : List (List ℕ) → List Declared → List Attribute → Attribute → AttributeReason → Type 0
-IsWrongWhole entities rules done a why = (left behind more : List ℕ) → IsWhole left a more → IsWrong entities rules done left a.name behind why
+IsWrongWhole entities rules done a why =
+    (left behind more : List ℕ) → IsWhole left a more → IsWrong entities rules done left a.name behind why
 
 -- the whole attribute is one that XML allows, or is wrong for this reason
 abbrev pub IsJudged : List (List ℕ) → List Declared → List Attribute → Attribute → Option AttributeReason → Type 0
