@@ -18,8 +18,8 @@ returns c = (
   c.args.rest.now,
   refl,
   ap (λ (body : List ℕ). is_known (table_at c.args.site.now).entities (reference_of body)) (sym c.split.ensures.front)
-    ∙ ap (is_known (table_at c.args.site.now).entities) (sym c.reference_of.ensures)
-    ∙ sym c.is_known.ensures
-    ∙ c.if-is_known.false,
+      ∙ ap (is_known (table_at c.args.site.now).entities) (sym c.reference_of.ensures)
+      ∙ sym c.is_known.ensures
+      ∙ c.if-is_known.false,
   subst (λ (end : List ℕ). IsSpan c.args.site.now.size c.args.rest.now end c.span.result) c.split.ensures.rest c.span.ensures,
 )
