@@ -1,3 +1,2 @@
-pub mod NodeLemmas
-pub mod PathLemmas
-pub mod RowLemmas
+pub mod WordLemmas
+pub mod PartLemmas
