@@ -1,0 +1,11 @@
+pub mod SpellLemmas
+pub mod FitLemmas
+pub mod ByteLemmas
+pub mod PartLemmas
+pub mod RangeLemmas
+pub mod ClassLemmas
+pub mod CutLemmas
+pub mod FormLemmas
+pub mod BuildLemmas
+pub mod FeedLemmas
+pub mod Examples
