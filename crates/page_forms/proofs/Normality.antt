@@ -25,8 +25,10 @@ use Rattle.page_forms.specs.References.{Rows, equal_to, inside, as_many, at_leas
 use Rattle.page_forms.specs.Remarks.{run_then, times, text_up_to, is_letter, not_behind, comment_form, section_form, instruction_form}
 use Rattle.page_forms.specs.Simple.{text_form, is_text, beyond_but_mark, end_tag_form}
 use Rattle.page_forms.specs.Tags.{one_word, some_words, token_form, value_character, kind_form, presence_form, value_form, attribute_form, attribute_members, any_order, tag_form, start_tag_form, empty_tag_form}
-use Rattle.page_forms.specs.Words.{word, one_of_words, ranges_below, ascii, beyond_ascii, character_of, other_than, blanks, gap, name_form}
-use Rattle.page_forms.proofs.Classes.{IsWide, spells_ascii}
+use Rattle.byte_forms.specs.Ranges.{ranges_below}
+use Rattle.byte_forms.proofs.ByteLemmas.{IsWide}
+use Rattle.page_forms.specs.Words.{word, one_of_words, ascii, beyond_ascii, character_of, other_than, blanks, gap, name_form}
+use Rattle.page_forms.proofs.Classes.{spells_ascii}
 use Rattle.page_forms.proofs.Instructions.{question}
 use Rattle.page_forms.proofs.NameForms.{spells_gap, spells_name}
 use Rattle.page_forms.proofs.Picking.{AreMembers, no_members, left_out, one_more, StandFor, are_members, is_something}

@@ -11,7 +11,8 @@ use Rattle.derivatives.specs.Expressions.{Expr, range, chain, either, Joins, at_
 use Rattle.derivatives.proofs.NormalForms.{chain_shown, chain_made, either_shown, either_made}
 use Rattle.page_forms.specs.Words.{in_turn, by_rows, later_byte, low_rows, middle_rows, high_rows, beyond_ascii, ascii, character_of, other_than}
 use Rattle.page_forms.proofs.Characters.{IsOfCharacter, of_two, of_e0, of_e1, of_ed, of_ee, of_ef, of_ef_bf, of_f0, of_f1, of_f4}
-use Rattle.page_forms.proofs.Classes.{Between, range_shown, spells_ascii}
+use Rattle.byte_forms.proofs.ByteLemmas.{Between, range_shown}
+use Rattle.page_forms.proofs.Classes.{spells_ascii}
 use Rattle.page_forms.proofs.Spelling.{Spells, Spelled, One, joins_is, spells_as, spells_either}
 
 -- the bytes lie in these ranges, one in each

@@ -4,6 +4,7 @@ use Rattle.xml_text.specs.Characters.{is_blank, is_character}
 use Rattle.xml_text.specs.Names.{begins_name, in_name, is_name}
 use Rattle.derivatives.specs.Expressions.{Expr, nothing, empty, range, star}
 use Rattle.derivatives.specs.Derivatives.{chain_of, either_of}
+use Rattle.byte_forms.specs.Ranges.{ranges_below}
 
 -- exactly these bytes
 abbrev pub word : List ℕ → Expr
@@ -14,14 +15,6 @@ word (b ∷ bs) = chain_of (range b b) (word bs)
 abbrev pub one_of_words : (List ℕ → Bool) → List (List ℕ) → Expr
 one_of_words test [] = nothing
 one_of_words test (w ∷ ws) = if test w then either_of (word w) (one_of_words test ws) else one_of_words test ws
-
--- the bytes below this one that pass a test, as ranges, or what is given; a range may be open up to its last byte
-abbrev pub ranges_below : (ℕ → Bool) → ℕ → Option ℕ → Expr → Expr
-ranges_below test zero None e = e
-ranges_below test zero (Some last) e = either_of (range zero last) e
-ranges_below test (suc n) None e = if test n then ranges_below test n (Some n) e else ranges_below test n None e
-ranges_below test (suc n) (Some last) e =
-    if test n then ranges_below test n (Some last) e else ranges_below test n None (either_of (range (suc n) last) e)
 
 -- a byte of ASCII that passes a test
 unfoldable pub ascii : (ℕ → Bool) → Expr

@@ -4,22 +4,23 @@ use Rattle.std.specs.Prelude.{⊤, slice_get}
 use Rattle.derivatives.specs.Standing.{IsExpr, IsMade, Grows, expr_at}
 use Rattle.derivatives.specs.Derivatives.{chain_of, either_of}
 use Rattle.derivatives.specs.declared.arena.Arena.{Arena}
-use Rattle.page_policy.specs.Patterns.{Pattern, seq, alt, form_of}
+use Rattle.page_policy.specs.Patterns.{Pattern, seq, alt}
+use Rattle.page_policy.specs.Forms.{IsForm}
 use Rattle.page_policy.specs.Machine.{PlainPart, Outer, State, wrong, at, put, state_of, joined}
-use Rattle.page_policy.specs.Views.{IsPart, AreParts, IsForm, IsFormIf, IsOuter, AreOuter, Holds}
+use Rattle.page_policy.specs.Views.{IsPart, AreParts, IsFormIf, IsOuter, AreOuter, Holds}
 use Rattle.page_policy.specs.declared.part.Part.{Part}
 use Rattle.page_policy.specs.declared.frame.Frame.{Frame}
 use Rattle.page_policy.proofs.PartLemmas.{none_read}
-use Rattle.page_policy.proofs.FormLemmas.{made_on, chain_made_behind}
+use Rattle.page_policy.proofs.FormLemmas.{made_on, seq_form, alt_form}
 
 pub form_if_on : (a b : Arena) (n : Option ℕ) (p : Option Pattern) → Grows a b → IsFormIf a n p → IsFormIf b n p
 form_if_on a b None None g h = tt
-form_if_on a b (Some n) (Some p) g h = made_on a b n g h
+form_if_on a b (Some n) (Some p) g h = made_on a b n p g h
 form_if_on a b None (Some p) g h = absurd h
 form_if_on a b (Some n) None g h = absurd h
 
 outer_on : (a b : Arena) (f : Frame) (o : Outer) → Grows a b → IsOuter a f o → IsOuter b f o
-outer_on a b f o g h = record { row = made_on a b f.row g h.row; others = form_if_on a b f.others o.1 g h.others; repeat = h.repeat }
+outer_on a b f o g h = record { row = made_on a b f.row o.0 g h.row; others = form_if_on a b f.others o.1 g h.others; repeat = h.repeat }
 
 pub outers_on : (a b : Arena) (fs : List Frame) (os : List Outer) → Grows a b → AreOuter a fs os → AreOuter b fs os
 outers_on a b [] [] g h = tt
@@ -33,21 +34,16 @@ wrong_stays xs x e = ap (put x) e
 -- what is held stays held while the arena grows
 pub holds_on : (a b : Arena) (row : ℕ) (others : Option ℕ) (fs : List Frame) (s : State) → Grows a b → Holds a row others fs s → Holds b row others fs s
 holds_on a b row others fs wrong g h = h
-holds_on a b row others fs (at p o os) g h = (made_on a b row g h.0, form_if_on a b others o g h.1, outers_on a b fs os g h.2)
+holds_on a b row others fs (at p o os) g h = (made_on a b row p g h.0, form_if_on a b others o g h.1, outers_on a b fs os g h.2)
 
 -- the row with something before it
 pub row_longer : (a b c : Arena) (x row r : ℕ) (others : Option ℕ) (fs : List Frame) (p q : Pattern) (o : Option Pattern) (os : List Outer) → Grows a b → Grows b c
     → IsForm b x p → Holds a row others fs (at q o os) → IsMade c r (chain_of (expr_at b x) (expr_at b row)) → Holds c r others fs (at (seq p q) o os)
 row_longer a b c x row r others fs p q o os g k m h made = (
-  chain_made_behind a b c x row r g m h.0 made,
+  seq_form b c x row r p q m (made_on a b row q g h.0) made,
   form_if_on b c others o k (form_if_on a b others o g h.1),
   outers_on b c fs os k (outers_on a b fs os g h.2),
 )
-
--- the row with the alternatives behind it
-pub row_joined : (a c : Arena) (row others r : ℕ) (p q : Pattern) → IsForm a row p → IsForm a others q → IsMade c r (either_of (expr_at a row) (expr_at a others)) → IsForm c r (alt p q)
-row_joined a c row others r p q m n made =
-    record { is_expr = made.is_expr; is = made.is ∙ ap (λ (z : _). either_of z (expr_at a others)) m.is ∙ ap (λ (z : _). either_of (form_of p) z) n.is }
 
 -- the part at a place, and those behind it
 pub record There (xs : List PlainPart) (p : Part) (k : ℕ) : Type 0 where

@@ -8,7 +8,7 @@ use Rattle.page_policy.specs.Grammar.{is_sign, byte_at, Ranges, Byte, dot, itsel
 use Rattle.page_policy.specs.Machine.{PlainPart, byte, opened, closed, barred, repeat_at, PartAt, is_byte, opens, closes, bars}
 use Rattle.page_policy.specs.Views.{HasRanges, ReadsRanges, IsClass, ReadsClass, ReadsPart, IsPart}
 use Rattle.page_policy.specs.declared.part.Repeat.{Repeat}
-use Rattle.page_policy.specs.declared.part.ByteClass.{ByteClass}
+use Rattle.byte_forms.specs.declared.class.ByteClass.{ByteClass}
 use Rattle.page_policy.specs.declared.part.Part.{Part}
 use Rattle.page_policy.specs.declared.part.Part.TheVariants as part
 use Rattle.page_policy.proofs.PartLemmas.{none_read, not_with_hat}

@@ -1,60 +1,105 @@
--- Which texts fit.
-use Rattle.std.proofs.Common.{◌≡◌, ℕ, ◌⊎◌, inl, inr, Bool, List, [], ◌∷◌, refl, sym, subst}
-use Rattle.derivatives.specs.Expressions.{Expr, empty, chain, either, star, Joins, Matches, is_empty, is_chain, is_left, is_right, is_over, is_more}
+-- Which texts an expression matches, and which fit a pattern.
+use Rattle.std.proofs.Common.{◌≡◌, ◌∙◌, ◌<◌, ℕ, ◌⊎◌, inl, inr, Bool, true, false, List, [], ◌∷◌, None, refl, sym, ap, subst}
+use Rattle.std.specs.Prelude.{◌↔◌, not, slice_index_or, if◌then◌else◌}
+use Rattle.derivatives.specs.Expressions.{Expr, nothing, empty, chain, either, star, Joins, Matches, is_empty, is_chain, is_left, is_right, is_over, is_more}
+use Rattle.derivatives.specs.Derivatives.{chain_of, either_of}
 use Rattle.derivatives.proofs.NormalForms.{chain_shown, chain_made, either_shown, either_made}
-use Rattle.page_policy.specs.Patterns.{Pattern, byte_of, void, seq, alt, any, some, maybe, is_meant, form_of, Fits}
-use Rattle.page_policy.specs.Laws.{IsMeantByte, InTurn, InRow, of_none, of_more, FitAsEver}
-use Rattle.page_policy.proofs.ByteLemmas.{Below, byte_shown, byte_made}
+use Rattle.byte_forms.specs.Classes.{in_class}
+use Rattle.byte_forms.specs.Laws.{IsByteBelow}
+use Rattle.byte_forms.specs.Ranges.{ranges_below}
+use Rattle.byte_forms.specs.declared.class.ByteClass.{ByteClass}
+use Rattle.byte_forms.proofs.ByteLemmas.{byte_is_matched}
+use Rattle.page_policy.specs.Patterns.{Pattern, byte_of, void, seq, alt, any, some, maybe, in_ranges, is_meant, Fits, fits_byte, fits_void, fits_seq, fits_first, fits_second, fits_none, fits_more, fits_some, fits_absent, fits_present}
+use Rattle.page_policy.specs.Views.{IsClass}
 
-byte_fits : (out : Bool) (rs : List (ℕ × ℕ)) {w : List ℕ} → Fits (byte_of out rs) w → IsMeantByte out rs w
-byte_fits out rs d = let p = byte_shown (is_meant out rs) d in record { byte = p.byte; is_byte = p.below; meant = p.passes; is = p.is }
+-- the expression matches exactly the texts that fit
+abbrev pub IsAs : Expr → Pattern → Type 0
+IsAs x p = (w : List ℕ) → Matches x w ↔ Fits p w
 
-fits_byte : (out : Bool) (rs : List (ℕ × ℕ)) {w : List ℕ} → IsMeantByte out rs w → Fits (byte_of out rs) w
-fits_byte out rs p = byte_made (is_meant out rs) (record { byte = p.byte; below = p.is_byte; passes = p.meant; is = p.is })
+pub void_as : IsAs empty void
+void_as w = (forth, back)
+  where
+    forth : {w : List ℕ} → Matches empty w → Fits void w
+    forth is_empty = fits_void
 
-void_fits : {w : List ℕ} → Matches empty w → w ≡ []
-void_fits is_empty = refl
+    back : {w : List ℕ} → Fits void w → Matches empty w
+    back fits_void = is_empty
 
-fits_void : {w : List ℕ} → w ≡ [] → Matches empty w
-fits_void e = subst (λ (w : List ℕ). Matches empty w) (sym e) is_empty
+pub seq_as : (x y : Expr) (p q : Pattern) → IsAs x p → IsAs y q → IsAs (chain_of x y) (seq p q)
+seq_as x y p q f g w = (λ d. forth (chain_shown x y d), λ d. chain_made x y (back d))
+  where
+    forth : {w : List ℕ} → Matches (chain x y) w → Fits (seq p q) w
+    forth (is_chain {u = u} {v = v} j d e) = fits_seq j ((f u).0 d) ((g v).0 e)
 
-seq_fits : (p q : Pattern) {w : List ℕ} → Matches (chain (form_of p) (form_of q)) w → InTurn p q w
-seq_fits p q (is_chain {u = u} {v = v} j d f) = record { first = u; second = v; joined = j; fits = d; others = f }
+    back : {w : List ℕ} → Fits (seq p q) w → Matches (chain x y) w
+    back (fits_seq {u = u} {v = v} j d e) = is_chain j ((f u).1 d) ((g v).1 e)
 
-alt_fits : (x y : Expr) {w : List ℕ} → Matches (either x y) w → Matches x w ⊎ Matches y w
-alt_fits x y (is_left d) = inl d
-alt_fits x y (is_right d) = inr d
+pub alt_as : (x y : Expr) (p q : Pattern) → IsAs x p → IsAs y q → IsAs (either_of x y) (alt p q)
+alt_as x y p q f g w = (λ d. forth (either_shown x y d), λ d. either_made x y (back d))
+  where
+    forth : {w : List ℕ} → Matches (either x y) w → Fits (alt p q) w
+    forth (is_left {w = w} d) = fits_first ((f w).0 d)
+    forth (is_right {w = w} d) = fits_second ((g w).0 d)
 
-fits_alt : (x y : Expr) {w : List ℕ} → Matches x w ⊎ Matches y w → Matches (either x y) w
-fits_alt x y (inl d) = is_left d
-fits_alt x y (inr d) = is_right d
+    back : {w : List ℕ} → Fits (alt p q) w → Matches (either x y) w
+    back (fits_first {w = w} d) = is_left ((f w).1 d)
+    back (fits_second {w = w} d) = is_right ((g w).1 d)
 
-any_of : (p : Pattern) (x : Expr) {w : List ℕ} → Matches (star x) w → x ≡ form_of p → InRow p w
-any_of p x is_over e = of_none
-any_of p x (is_more {u = u} j d f) e = of_more j (subst (λ (y : Expr). Matches y u) e d) (any_of p x f e)
+star_fits : (x : Expr) (p : Pattern) → IsAs x p → {w : List ℕ} → Matches (star x) w → Fits (any p) w
+star_fits x p f is_over = fits_none
+star_fits x p f (is_more {u = u} j d e) = fits_more j ((f u).0 d) (star_fits x p f e)
 
-any_fits : (p : Pattern) {w : List ℕ} → Matches (star (form_of p)) w → InRow p w
-any_fits p d = any_of p (form_of p) d refl
+fits_star : (x : Expr) (p : Pattern) → IsAs x p → {w : List ℕ} → Fits (any p) w → Matches (star x) w
+fits_star x p f fits_none = is_over
+fits_star x p f (fits_more {u = u} j d e) = is_more j ((f u).1 d) (fits_star x p f e)
 
-fits_any : (p : Pattern) {w : List ℕ} → InRow p w → Matches (star (form_of p)) w
-fits_any p of_none = is_over
-fits_any p (of_more j d f) = is_more j d (fits_any p f)
+pub any_as : (x : Expr) (p : Pattern) → IsAs x p → IsAs (star x) (any p)
+any_as x p f w = (λ d. star_fits x p f d, λ d. fits_star x p f d)
 
-maybe_fits : (p : Pattern) {w : List ℕ} → Matches empty w ⊎ Fits p w → (w ≡ []) ⊎ Fits p w
-maybe_fits p (inl d) = inl (void_fits d)
-maybe_fits p (inr d) = inr d
+pub some_as : (x y : Expr) (p : Pattern) → IsAs x p → IsAs y (any p) → IsAs (chain_of x y) (some p)
+some_as x y p f g w = (λ d. forth (chain_shown x y d), λ d. chain_made x y (back d))
+  where
+    forth : {w : List ℕ} → Matches (chain x y) w → Fits (some p) w
+    forth (is_chain {u = u} {v = v} j d e) = fits_some j ((f u).0 d) ((g v).0 e)
 
-fits_maybe : (p : Pattern) {w : List ℕ} → (w ≡ []) ⊎ Fits p w → Matches empty w ⊎ Fits p w
-fits_maybe p (inl e) = inl (fits_void e)
-fits_maybe p (inr d) = inr d
+    back : {w : List ℕ} → Fits (some p) w → Matches (chain x y) w
+    back (fits_some {u = u} {v = v} j d e) = is_chain j ((f u).1 d) ((g v).1 e)
 
-pub fit_as_ever : FitAsEver
-fit_as_ever = record {
-  on_byte = λ out rs w. (byte_fits out rs, fits_byte out rs);
-  on_void = λ w. (void_fits, fits_void);
-  on_seq = λ p q w. (λ d. seq_fits p q (chain_shown (form_of p) (form_of q) d), λ t. chain_made (form_of p) (form_of q) (is_chain t.joined t.fits t.others));
-  on_alt = λ p q w. (λ d. alt_fits (form_of p) (form_of q) (either_shown (form_of p) (form_of q) d), λ d. either_made (form_of p) (form_of q) (fits_alt (form_of p) (form_of q) d));
-  on_any = λ p w. (any_fits p, fits_any p);
-  on_some = λ p w. (λ d. seq_fits p (any p) (chain_shown (form_of p) (star (form_of p)) d), λ t. chain_made (form_of p) (star (form_of p)) (is_chain t.joined t.fits t.others));
-  on_maybe = λ p w. (λ d. maybe_fits p (alt_fits empty (form_of p) (either_shown empty (form_of p) d)), λ d. either_made empty (form_of p) (fits_alt empty (form_of p) (fits_maybe p d)));
-}
+pub maybe_as : (x y : Expr) (p : Pattern) → IsAs x void → IsAs y p → IsAs (either_of x y) (maybe p)
+maybe_as x y p f g w = (λ d. forth (either_shown x y d), λ d. either_made x y (back d))
+  where
+    absent : {w : List ℕ} → Fits void w → Fits (maybe p) w
+    absent fits_void = fits_absent
+
+    forth : {w : List ℕ} → Matches (either x y) w → Fits (maybe p) w
+    forth (is_left {w = w} d) = absent ((f w).0 d)
+    forth (is_right {w = w} d) = fits_present ((g w).0 d)
+
+    back : {w : List ℕ} → Fits (maybe p) w → Matches (either x y) w
+    back fits_absent = is_left ((f []).1 fits_void)
+    back (fits_present {w = w} d) = is_right ((g w).1 d)
+
+-- Classes of bytes.
+
+same_truth : (x y : Bool) → (x ≡ true → y ≡ true) → (y ≡ true → x ≡ true) → x ≡ y
+same_truth true y f g = sym (f refl)
+same_truth false true f g = g refl
+same_truth false false f g = refl
+
+pub class_meant : (class : ByteClass) (out : Bool) (rs : List (ℕ × ℕ)) → IsClass class out rs → (b : ℕ) → b < 256 → in_class class b ≡ is_meant out rs b
+class_meant class out rs is b lt =
+    let same = same_truth (slice_index_or class.set b false) (in_ranges rs b) (is.ranges b lt).0 (is.ranges b lt).1 in
+    ap (λ (o : Bool). if o then not (slice_index_or class.set b false) else slice_index_or class.set b false) is.others ∙ at out same
+  where
+    at : (out : Bool) {s : Bool} → s ≡ in_ranges rs b → (if out then not s else s) ≡ is_meant out rs b
+    at true e = ap not e
+    at false e = e
+
+pub byte_as : (class : ByteClass) (out : Bool) (rs : List (ℕ × ℕ)) → IsClass class out rs → IsAs (ranges_below (in_class class) 256 None nothing) (byte_of out rs)
+byte_as class out rs is w = (λ d. forth ((byte_is_matched (in_class class) 256 w).0 d), λ d. (byte_is_matched (in_class class) 256 w).1 (back d))
+  where
+    forth : {w : List ℕ} → IsByteBelow (in_class class) 256 w → Fits (byte_of out rs) w
+    forth p = subst (λ (z : List ℕ). Fits (byte_of out rs) z) p.is (fits_byte p.below (sym (class_meant class out rs is p.byte p.below) ∙ p.passes))
+
+    back : {w : List ℕ} → Fits (byte_of out rs) w → IsByteBelow (in_class class) 256 w
+    back (fits_byte {b = b} lt h) = record { byte = b; below = lt; passes = class_meant class out rs is b lt ∙ h; is = refl }

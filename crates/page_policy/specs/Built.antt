@@ -2,7 +2,8 @@
 use Rattle.std.specs.Prelude.{◌≡◌, Bool, true, false, List, [], ◌∷◌, Option, Some, None}
 use Rattle.page_policy.specs.Patterns.{Pattern}
 use Rattle.page_policy.specs.Machine.{Outer, State, wrong, at, joined}
-use Rattle.page_policy.specs.Views.{IsForm, Holds}
+use Rattle.page_policy.specs.Forms.{IsForm}
+use Rattle.page_policy.specs.Views.{Holds}
 use Rattle.page_policy.specs.declared.building.Building.{Building}
 use Rattle.page_policy.specs.declared.pattern.Pattern.{Pattern as Held}
 

@@ -1,9 +1,9 @@
 pub mod Patterns
 pub mod Grammar
+pub mod Forms
 pub mod Refusals
 pub mod Machine
 pub mod Views
-pub mod Runs
 pub mod Cuts
 pub mod Built
 pub mod Laws

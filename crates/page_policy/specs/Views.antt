@@ -3,13 +3,13 @@ use Rattle.std.specs.Prelude.{◌≡◌, ◌<◌, ◌↔◌, ℕ, Bool, true, fa
 use Rattle.std.specs.Borrow.{Bor}
 use Rattle.text_base.specs.ByteSet.{Has}
 use Rattle.text_base.specs.declared.byte_range.ByteRange.{ByteRange}
-use Rattle.derivatives.specs.Standing.{IsMade}
 use Rattle.derivatives.specs.declared.arena.Arena.{Arena}
-use Rattle.page_policy.specs.Patterns.{Pattern, in_ranges, form_of}
+use Rattle.byte_forms.specs.declared.class.ByteClass.{ByteClass}
+use Rattle.page_policy.specs.Patterns.{Pattern, in_ranges}
+use Rattle.page_policy.specs.Forms.{IsForm}
 use Rattle.page_policy.specs.Grammar.{is_sign, is_set_sign, Ranges, Byte}
 use Rattle.page_policy.specs.Machine.{PlainPart, byte, opened, closed, barred, State, wrong, at, repeat_at, PartAt}
 use Rattle.page_policy.specs.declared.part.Repeat.{Repeat}
-use Rattle.page_policy.specs.declared.part.ByteClass.{ByteClass}
 use Rattle.page_policy.specs.declared.part.Part.{Part}
 use Rattle.page_policy.specs.declared.part.Part.TheVariants as part
 use Rattle.page_policy.specs.declared.frame.Frame.{Frame}
@@ -80,10 +80,6 @@ abbrev pub AreParts : List Part → List PlainPart → Type 0
 AreParts [] [] = ⊤
 AreParts (p ∷ ps) (x ∷ xs) = IsPart p x × AreParts ps xs
 AreParts ps xs = ⊥
-
--- the number stands for this pattern
-abbrev pub IsForm : Arena → ℕ → Pattern → Type 0
-IsForm arena n p = IsMade arena n (form_of p)
 
 -- the number, if there is one, stands for this pattern
 abbrev pub IsFormIf : Arena → Option ℕ → Option Pattern → Type 0

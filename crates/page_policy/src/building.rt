@@ -7,9 +7,10 @@ ghost use Rattle.page_policy.specs.Patterns.{Pattern as Plain};
 ghost use Rattle.page_policy.specs.Machine.{PlainPart, State, wrong, at, put, state_of, Outer};
 ghost use Rattle.page_policy.specs.Machine as spec;
 ghost use Rattle.page_policy.specs.Built.{HoldsIn, IsHeld, IsPut, IsBuilt};
-ghost use Rattle.page_policy.specs.Views.{IsPart, AreParts, IsForm, IsFormIf, AreOuter};
+ghost use Rattle.page_policy.specs.Forms.{IsForm};
+ghost use Rattle.page_policy.specs.Views.{IsPart, AreParts};
 
-use crate::forms::{class_form, repeated};
+use crate::forms::{byte_form, repeated};
 use crate::frame::Frame;
 use crate::part::{Part, Repeat};
 use crate::pattern::Pattern;
@@ -77,7 +78,7 @@ impl Building {
     {
         match part {
             Part::Byte(class, repeat) => {
-                let form = class_form(&mut self.arena, class)?;
+                let form = byte_form(&mut self.arena, class)?;
                 self.put_first(form, *repeat)?;
             }
             Part::Bar => {

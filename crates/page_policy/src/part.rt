@@ -1,6 +1,6 @@
 //! The parts of a pattern file.
 
-use text_base::ByteSet;
+use byte_forms::ByteClass;
 
 /// How often something stands.
 #[derive(Clone, Copy, PartialEq, Eq)]
@@ -9,13 +9,6 @@ pub(crate) enum Repeat {
     Any,
     AtLeastOnce,
     AtMostOnce,
-}
-
-/// The bytes of a set, or all others.
-#[derive(Drop)]
-pub(crate) struct ByteClass {
-    pub(crate) others: bool,
-    pub(crate) set: ByteSet,
 }
 
 /// A part: a byte of a class, or a bracket that closes, with how often it stands; a bracket that

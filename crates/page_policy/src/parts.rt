@@ -7,7 +7,8 @@ ghost use Rattle.page_policy.specs.Machine as spec;
 ghost use Rattle.page_policy.specs.Views.{IsClass, ReadsRanges, ReadsClass, ReadsPart, repeat_read};
 
 use crate::bytes::{byte_at, range_at};
-use crate::part::{ByteClass, Part, Repeat};
+use crate::part::{Part, Repeat};
+use byte_forms::ByteClass;
 use text_base::{ByteRange, ByteSet};
 
 /// What stands behind the bracket that ends a set, if it stands at the head.

@@ -4,7 +4,7 @@ ghost use Rattle.std.specs.Prelude.{◌≡◌, [], IfOk, IfErr};
 ghost use Rattle.page_policy.specs.Patterns.{Pattern as Plain};
 ghost use Rattle.page_policy.specs.Grammar.{Alt, body_of};
 ghost use Rattle.page_policy.specs.Refusals.{IsTaken, IsCause};
-ghost use Rattle.page_policy.specs.Views.{IsForm};
+ghost use Rattle.page_policy.specs.Forms.{IsForm};
 
 use crate::building::build;
 use crate::cutting::cut;

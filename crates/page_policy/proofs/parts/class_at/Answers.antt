@@ -1,6 +1,6 @@
 use Rattle.std.proofs.Common.{rules, ◌≡◌, ℕ, true, List, ◌∷◌, refl, sym, subst}
 use Rattle.page_policy.specs.Views.{ReadsClass}
-use Rattle.page_policy.specs.declared.part.ByteClass.{ByteClass}
+use Rattle.byte_forms.specs.declared.class.ByteClass.{ByteClass}
 use Rattle.page_policy.proofs.ClassLemmas.{dot_read, itself_read}
 use Rattle.page_policy.proofs.parts.class_at.Goals as goal
 

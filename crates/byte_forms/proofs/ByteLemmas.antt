@@ -1,18 +1,12 @@
--- Bytes that pass a test, by their ranges.
-use Rattle.std.proofs.Common.{◌≡◌, ◌⊎◌, inl, inr, ℕ, zero, suc, ◌<◌, ◌≤◌, Bool, true, false, List, [], ◌∷◌, Option, Some, None, refl, sym, ◌∙◌, ap, subst, arith}
-use Rattle.std.specs.Prelude.{nat_le, ◌&&◌, if◌then◌else◌}
+-- The ranges of a test match the bytes that pass.
+use Rattle.std.proofs.Common.{◌≡◌, ◌⊎◌, inl, inr, ℕ, zero, suc, ◌≤◌, Bool, true, false, List, [], ◌∷◌, Option, Some, None, refl, sym, ◌∙◌, ap, subst, arith}
+use Rattle.std.specs.Prelude.{nat_le, if◌then◌else◌}
 use Rattle.std.proofs.lemmas.Bool.{and_parts, and_from, leb-true, le-leb, cases_eq}
-use Rattle.derivatives.specs.Expressions.{Expr, nothing, range, either, lies, Matches, is_byte, is_left, is_right}
+use Rattle.derivatives.specs.Expressions.{Expr, nothing, range, either, Matches, is_byte, is_left, is_right}
 use Rattle.derivatives.specs.Derivatives.{either_of}
 use Rattle.derivatives.proofs.NormalForms.{either_shown, either_made}
-use Rattle.page_policy.specs.Patterns.{bytes_below, byte_form}
-
--- a byte below this one that passes
-pub record Below (test : ℕ → Bool) (n : ℕ) (w : List ℕ) : Type 0 where
-  pub byte : ℕ
-  pub below : byte < n
-  pub passes : test byte ≡ true
-  pub is : byte ∷ [] ≡ w
+use Rattle.byte_forms.specs.Ranges.{ranges_below}
+use Rattle.byte_forms.specs.Laws.{IsByteBelow, ByteIsMatched}
 
 -- a byte of a range
 pub record Between (first last : ℕ) (w : List ℕ) : Type 0 where
@@ -21,7 +15,7 @@ pub record Between (first last : ℕ) (w : List ℕ) : Type 0 where
   pub below : byte ≤ last
   pub is : byte ∷ [] ≡ w
 
-abbrev IsOpen : ℕ → Option ℕ → List ℕ → Type 0
+abbrev pub IsOpen : ℕ → Option ℕ → List ℕ → Type 0
 IsOpen n None w = ⊥
 IsOpen n (Some last) w = Between n last w
 
@@ -31,16 +25,16 @@ range_shown low high (is_byte {b = b} h) = let p = and_parts (nat_le low b) (nat
 range_made : (low high : ℕ) {w : List ℕ} → Between low high w → Matches (range low high) w
 range_made low high {w} p = subst (λ (z : List ℕ). Matches (range low high) z) p.is (is_byte (and_from (nat_le low p.byte) (nat_le p.byte high) (le-leb low p.byte p.above) (le-leb p.byte high p.below)))
 
-abbrev Found : (ℕ → Bool) → ℕ → Option ℕ → Expr → List ℕ → Type 0
-Found test n o e w = Below test n w ⊎ (IsOpen n o w ⊎ Matches e w)
+abbrev pub Found : (ℕ → Bool) → ℕ → Option ℕ → Expr → List ℕ → Type 0
+Found test n o e w = IsByteBelow test n w ⊎ (IsOpen n o w ⊎ Matches e w)
 
-lower : {test : ℕ → Bool} {n : ℕ} {w : List ℕ} → Below test n w → Below test (suc n) w
+lower : {test : ℕ → Bool} {n : ℕ} {w : List ℕ} → IsByteBelow test n w → IsByteBelow test (suc n) w
 lower p = record { byte = p.byte; below = omega (arith, p.below); passes = p.passes; is = p.is }
 
-this : {test : ℕ → Bool} (n : ℕ) {w : List ℕ} → test n ≡ true → (b : ℕ) → b ≡ n → b ∷ [] ≡ w → Below test (suc n) w
+this : {test : ℕ → Bool} (n : ℕ) {w : List ℕ} → test n ≡ true → (b : ℕ) → b ≡ n → b ∷ [] ≡ w → IsByteBelow test (suc n) w
 this {test} n h b e i = record { byte = b; below = omega arith; passes = ap test e ∙ h; is = i }
 
-shown_below : (test : ℕ → Bool) (n : ℕ) (o : Option ℕ) (e : Expr) {w : List ℕ} → Matches (bytes_below test n o e) w → Found test n o e w
+pub shown_below : (test : ℕ → Bool) (n : ℕ) (o : Option ℕ) (e : Expr) {w : List ℕ} → Matches (ranges_below test n o e) w → Found test n o e w
 shown_below test zero None e d = inr (inr d)
 shown_below test zero (Some last) e d = at (either_shown (range zero last) e d)
   where
@@ -58,8 +52,8 @@ shown_below test (suc n) None e {w} d = at (test n) refl d (λ f. shown_below te
     closed (inl p) = inl (lower p)
     closed (inr f) = inr f
 
-    at : (b : Bool) → test n ≡ b → Matches (if b then bytes_below test n (Some n) e else bytes_below test n None e) w
-        → (Matches (bytes_below test n (Some n) e) w → Found test n (Some n) e w) → (Matches (bytes_below test n None e) w → Found test n None e w) → Found test (suc n) None e w
+    at : (b : Bool) → test n ≡ b → Matches (if b then ranges_below test n (Some n) e else ranges_below test n None e) w
+        → (Matches (ranges_below test n (Some n) e) w → Found test n (Some n) e w) → (Matches (ranges_below test n None e) w → Found test n None e w) → Found test (suc n) None e w
     at true h d f g = opened h (f d)
     at false h d f g = closed (g d)
 shown_below test (suc n) (Some last) e {w} d =
@@ -86,8 +80,8 @@ shown_below test (suc n) (Some last) e {w} d =
     closed (inr (inl p)) = absurd p
     closed (inr (inr f)) = split (either_shown (range (suc n) last) e f)
 
-    at : (b : Bool) → test n ≡ b → Matches (if b then bytes_below test n (Some last) e else bytes_below test n None (either_of (range (suc n) last) e)) w
-        → (Matches (bytes_below test n (Some last) e) w → Found test n (Some last) e w) → (Matches (bytes_below test n None (either_of (range (suc n) last) e)) w → Found test n None E w) → Found test (suc n) (Some last) e w
+    at : (b : Bool) → test n ≡ b → Matches (if b then ranges_below test n (Some last) e else ranges_below test n None (either_of (range (suc n) last) e)) w
+        → (Matches (ranges_below test n (Some last) e) w → Found test n (Some last) e w) → (Matches (ranges_below test n None (either_of (range (suc n) last) e)) w → Found test n None E w) → Found test (suc n) (Some last) e w
     at true h d f g = opened h (f d)
     at false h d f g = closed (g d)
 
@@ -98,7 +92,7 @@ IsWide n (Some last) = n ≤ last
 
 -- what is found is matched
 abbrev Makes : (ℕ → Bool) → ℕ → Option ℕ → Expr → List ℕ → Type 0
-Makes test n o e w = Found test n o e w → Matches (bytes_below test n o e) w
+Makes test n o e w = Found test n o e w → Matches (ranges_below test n o e) w
 
 not_this : (test : ℕ → Bool) (n b : ℕ) → test n ≡ false → test b ≡ true → b ≡ n → ⊥
 not_this test n b h t q = let z : test n ≡ true = sym (ap test q) ∙ t in both (test n) z h
@@ -107,11 +101,11 @@ not_this test n b h t q = let z : test n ≡ true = sym (ap test q) ∙ t in bot
     both b t h = cc
 
 -- a byte that passes is the next one, or lies below it
-next_by : {test : ℕ → Bool} {n : ℕ} {w : List ℕ} (last : ℕ) → n ≤ last → (p : Below test (suc n) w) → (p.byte ≡ n) ⊎ (p.byte ≡ n → ⊥) → Below test n w ⊎ Between n last w
+next_by : {test : ℕ → Bool} {n : ℕ} {w : List ℕ} (last : ℕ) → n ≤ last → (p : IsByteBelow test (suc n) w) → (p.byte ≡ n) ⊎ (p.byte ≡ n → ⊥) → IsByteBelow test n w ⊎ Between n last w
 next_by last h p (inl q) = inr (record { byte = p.byte; above = omega (arith, q); below = omega (arith, q, h); is = p.is })
 next_by last h p (inr q) = inl (record { byte = p.byte; below = omega (arith, p.below, q); passes = p.passes; is = p.is })
 
-made_below : (test : ℕ → Bool) (n : ℕ) (o : Option ℕ) (e : Expr) {w : List ℕ} → IsWide n o → Found test n o e w → Matches (bytes_below test n o e) w
+pub made_below : (test : ℕ → Bool) (n : ℕ) (o : Option ℕ) (e : Expr) {w : List ℕ} → IsWide n o → Found test n o e w → Matches (ranges_below test n o e) w
 made_below test zero o e l (inl p) = absurd (omega (arith, p.below))
 made_below test zero None e l (inr (inl p)) = absurd p
 made_below test zero None e l (inr (inr d)) = d
@@ -119,7 +113,7 @@ made_below test zero (Some last) e l (inr (inl p)) = either_made (range zero las
 made_below test zero (Some last) e l (inr (inr d)) = either_made (range zero last) e (is_right d)
 made_below test (suc n) None e {w} l f = at (test n) refl (λ g. made_below test n (Some n) e (omega arith) g) (λ g. made_below test n None e tt g)
   where
-    put : Below test n w ⊎ Between n n w → Found test n (Some n) e w
+    put : IsByteBelow test n w ⊎ Between n n w → Found test n (Some n) e w
     put (inl p) = inl p
     put (inr p) = inr (inl p)
 
@@ -132,7 +126,7 @@ made_below test (suc n) None e {w} l f = at (test n) refl (λ g. made_below test
     closed h (inl p) = let q = not_this test n p.byte h p.passes in inl (record { byte = p.byte; below = omega (arith, p.below, q); passes = p.passes; is = p.is })
     closed h (inr d) = inr d
 
-    at : (b : Bool) → test n ≡ b → Makes test n (Some n) e w → Makes test n None e w → Matches (if b then bytes_below test n (Some n) e else bytes_below test n None e) w
+    at : (b : Bool) → test n ≡ b → Makes test n (Some n) e w → Makes test n None e w → Matches (if b then ranges_below test n (Some n) e else ranges_below test n None e) w
     at true h g k = g (opened f)
     at false h g k = k (closed h f)
 made_below test (suc n) (Some last) e {w} l f =
@@ -141,7 +135,7 @@ made_below test (suc n) (Some last) e {w} l f =
     E : Expr
     E = either_of (range (suc n) last) e
 
-    put : Below test n w ⊎ Between n last w → Found test n (Some last) e w
+    put : IsByteBelow test n w ⊎ Between n last w → Found test n (Some last) e w
     put (inl p) = inl p
     put (inr p) = inr (inl p)
 
@@ -155,20 +149,14 @@ made_below test (suc n) (Some last) e {w} l f =
     closed h (inr (inl p)) = inr (inr (either_made (range (suc n) last) e (is_left (range_made (suc n) last p))))
     closed h (inr (inr d)) = inr (inr (either_made (range (suc n) last) e (is_right d)))
 
-    at : (b : Bool) → test n ≡ b → Makes test n (Some last) e w → Makes test n None E w → Matches (if b then bytes_below test n (Some last) e else bytes_below test n None E) w
+    at : (b : Bool) → test n ≡ b → Makes test n (Some last) e w → Makes test n None E w → Matches (if b then ranges_below test n (Some last) e else ranges_below test n None E) w
     at true h g k = g (opened f)
     at false h g k = k (closed h f)
 
--- what is matched is a byte that passes
-pub byte_shown : (test : ℕ → Bool) {w : List ℕ} → Matches (byte_form test) w → Below test 256 w
-unfolding byte_form
-byte_shown test {w} d = at (shown_below test 256 None nothing d)
+pub byte_is_matched : ByteIsMatched
+byte_is_matched test n w = (λ d. shown (shown_below test n None nothing d), λ p. made_below test n None nothing tt (inl p))
   where
-    at : Found test 256 None nothing w → Below test 256 w
-    at (inl p) = p
-    at (inr (inl p)) = absurd p
-    at (inr (inr d)) = elim d [ ]
-
-pub byte_made : (test : ℕ → Bool) {w : List ℕ} → Below test 256 w → Matches (byte_form test) w
-unfolding byte_form
-byte_made test p = made_below test 256 None nothing tt (inl p)
+    shown : Found test n None nothing w → IsByteBelow test n w
+    shown (inl p) = p
+    shown (inr (inl p)) = absurd p
+    shown (inr (inr d)) = elim d [ ]

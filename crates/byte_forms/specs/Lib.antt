@@ -1,0 +1,4 @@
+pub mod Ranges
+pub mod Classes
+pub mod Laws
+pub mod Runs
