@@ -53,7 +53,7 @@ no_inside bytes no_hat none out rs w (outside {u = u} d) = no_hat u refl
 no_inside bytes no_hat none out rs w (itself e) = none_read e
 
 pub no_itself : (bytes : List ℕ) → None ≡ byte_at is_sign bytes → ((u : List ℕ) → bytes ≡ 46 ∷ u → ⊥) → ((u : List ℕ) → bytes ≡ 91 ∷ u → ⊥) → NoByte bytes
-no_itself bytes e no_dot no_set out rs w (dot {w = w}) = no_dot w refl
+no_itself bytes e no_dot no_set out rs w dot = no_dot w refl
 no_itself bytes e no_dot no_set out rs w (itself f) = none_read (e ∙ f)
 no_itself bytes e no_dot no_set out rs w (inside {u = u} d) = no_set u refl
 no_itself bytes e no_dot no_set out rs w (outside {u = u} d) = no_set (94 ∷ u) refl

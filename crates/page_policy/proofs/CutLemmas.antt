@@ -1,6 +1,6 @@
 -- A file is cut part by part.
-use Rattle.std.proofs.Common.{◌≡◌, ◌∙◌, ◌++◌, ℕ, Bool, true, false, List, [], ◌∷◌, refl, sym, ap, subst, append-nil, append_assoc}
-use Rattle.std.specs.Prelude.{◌↔◌, IsTrue}
+use Rattle.std.proofs.Common.{◌≡◌, ◌∙◌, ◌++◌, ℕ, Bool, true, false, List, [], ◌∷◌, length, refl, sym, ap, subst, append-nil, append_assoc, arith, eqb-true}
+use Rattle.std.specs.Prelude.{◌↔◌, ◌==◌, IsTrue}
 use Rattle.page_policy.specs.Machine.{PlainPart, PartAt, Cut, all, further}
 use Rattle.page_policy.specs.Views.{ReadsPart, AreParts}
 use Rattle.page_policy.specs.Cuts.{HasParts, IsCutBy, CutSoFar}
@@ -37,10 +37,24 @@ cut_failed file rest items so some none xs d = let f = so.back xs d in wrong f.1
     wrong all some none = some refl
     wrong (further {x = x} {v = v} h d) some none = none x v h
 
-pub cut_done : (file rest : List ℕ) (items : List Part) (whole : Bool) → CutSoFar file rest items → ((x : PlainPart) (w : List ℕ) → PartAt x rest w → ⊥)
-    → IsTrue whole ↔ (rest ≡ []) → IsCutBy whole items file
-cut_done file rest items true so none is = cut_ended file rest items so (is.0 refl)
-cut_done file rest items false so none is = cut_failed file rest items so (λ e. differ (is.1 e)) none
+differ : false ≡ true → ⊥
+differ e = cc
+
+not_nil : (b : ℕ) (bytes : List ℕ) → b ∷ bytes ≡ [] → ⊥
+not_nil b bytes e = cc
+
+no_more : (whole : Bool) (rest : List ℕ) → whole ≡ (length rest == 0) → IsTrue whole ↔ (rest ≡ [])
+no_more whole [] e = (λ t. refl, λ r. e)
+no_more whole (b ∷ rest) e = (λ t. absurd (not_zero (eqb-true (length (b ∷ rest)) 0 (sym e ∙ t))), λ r. absurd (not_nil b rest r))
   where
-    differ : false ≡ true → ⊥
-    differ e = cc
+    not_zero : length (b ∷ rest) ≡ 0 → ⊥
+    not_zero q = omega (arith, q)
+
+whole_cut : (file rest : List ℕ) (items : List Part) (whole : Bool) → CutSoFar file rest items → ((x : PlainPart) (w : List ℕ) → PartAt x rest w → ⊥)
+    → IsTrue whole ↔ (rest ≡ []) → IsCutBy whole items file
+whole_cut file rest items true so none is = cut_ended file rest items so (is.0 refl)
+whole_cut file rest items false so none is = cut_failed file rest items so (λ e. differ (is.1 e)) none
+
+pub cut_done : (file rest : List ℕ) (items : List Part) (whole : Bool) → CutSoFar file rest items → ((x : PlainPart) (w : List ℕ) → PartAt x rest w → ⊥)
+    → whole ≡ (length rest == 0) → IsCutBy whole items file
+cut_done file rest items whole so none e = whole_cut file rest items whole so none (no_more whole rest e)

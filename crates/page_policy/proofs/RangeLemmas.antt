@@ -96,11 +96,11 @@ pub so_far_ended : (bytes : List ℕ) (old new : List Bool) (rest others behind 
 so_far_ended bytes old new rest others behind low high so e add is =
     let f = so.forth ((low, high) ∷ []) behind (last (e ∙ ap (λ (z : List ℕ). Some ((low, high), z)) is)) in
     let m = moved old new low high [] f.0 add f.2 in
-    record { ranges = f.0; read = f.1; has = λ b lt. (λ has. (m b lt).0 (inl has), λ g. here ((m b lt).1 g)) }
+    record { ranges = f.0; read = f.1; has = λ b lt. (λ has. (m b lt).0 (inl has), λ g. here b ((m b lt).1 g)) }
   where
-    here : {b : ℕ} → Has new b ⊎ (false ≡ true) → Has new b
-    here (inl has) = has
-    here (inr f) = absurd (differ f)
+    here : (b : ℕ) → Has new b ⊎ (false ≡ true) → Has new b
+    here b (inl has) = has
+    here b (inr f) = absurd (differ f)
 
 pub so_far_failed : (bytes : List ℕ) (set : List Bool) (rest : List ℕ) → RangesSoFar bytes set rest → None ≡ range_at rest
     → (rs : List (ℕ × ℕ)) (w : List ℕ) → Ranges rs bytes w → ⊥
