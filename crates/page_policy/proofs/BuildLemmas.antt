@@ -1,5 +1,5 @@
 -- What is held stays, and parts are put before it.
-use Rattle.std.proofs.Common.{◌≡◌, ◌∙◌, ◌<◌, ℕ, zero, suc, Bool, true, false, List, [], ◌∷◌, Option, Some, None, refl, sym, ap, subst, length, drop}
+use Rattle.std.proofs.Common.{◌≡◌, ◌∙◌, ◌<◌, ℕ, zero, suc, Bool, true, false, List, [], ◌∷◌, Option, Some, None, Result, Ok, Err, IfOk, OnOk, refl, sym, ap, subst, length, drop}
 use Rattle.std.specs.Prelude.{⊤, slice_get}
 use Rattle.derivatives.specs.Standing.{IsExpr, IsMade, Grows, expr_at}
 use Rattle.derivatives.specs.Derivatives.{chain_of, either_of}
@@ -67,3 +67,9 @@ none_left [] [] h = refl
 none_left [] (x ∷ xs) h = absurd h
 none_left (p ∷ ps) [] h = absurd h
 none_left (p ∷ ps) (x ∷ xs) h = none_left ps xs h.1
+
+-- what could not be read stays so
+pub wrong_behind : (k : ℕ) (xs : List PlainPart) → state_of (drop k xs) ≡ wrong → state_of xs ≡ wrong
+wrong_behind zero xs e = e
+wrong_behind (suc k) [] e = e
+wrong_behind (suc k) (x ∷ xs) e = wrong_stays xs x (wrong_behind k xs e)

@@ -6,5 +6,7 @@ pub mod ClassLemmas
 pub mod CutLemmas
 pub mod FormLemmas
 pub mod BuildLemmas
+pub mod PutLemmas
+pub mod ReadLemmas
 pub mod FeedLemmas
 pub mod Examples

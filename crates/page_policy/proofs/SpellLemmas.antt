@@ -168,7 +168,7 @@ spell_one file p q a b = one_alt a b
 pub uncut : {p : Pattern} {u : List ℕ} → ((xs : List PlainPart) → Cut xs u → ⊥) → Alt p u [] → ⊥
 uncut none a = let r = spelled_read a in none r.read.parts r.read.cut
 
-abbrev IsWhole : State → Type 0
+abbrev pub IsWhole : State → Type 0
 IsWhole wrong = ⊥
 IsWhole (at row o []) = ⊤
 IsWhole (at row o (q ∷ outer)) = ⊥
