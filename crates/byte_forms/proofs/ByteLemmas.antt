@@ -1,5 +1,5 @@
 -- The ranges of a test match the bytes that pass.
-use Rattle.std.proofs.Common.{◌≡◌, ◌⊎◌, inl, inr, ℕ, zero, suc, ◌≤◌, Bool, true, false, List, [], ◌∷◌, Option, Some, None, refl, sym, ◌∙◌, ap, subst, arith}
+use Rattle.std.proofs.Common.{◌≡◌, ◌⊎◌, inl, inr, ℕ, zero, suc, ◌<◌, ◌≤◌, Bool, true, false, List, [], ◌∷◌, Option, Some, None, refl, sym, ◌∙◌, ap, subst, arith}
 use Rattle.std.specs.Prelude.{nat_le, if◌then◌else◌}
 use Rattle.std.proofs.lemmas.Bool.{and_parts, and_from, leb-true, le-leb, cases_eq}
 use Rattle.derivatives.specs.Expressions.{Expr, nothing, range, either, Matches, is_byte, is_left, is_right}
@@ -160,3 +160,25 @@ byte_is_matched test n w = (λ d. shown (shown_below test n None nothing d), λ 
     shown (inl p) = p
     shown (inr (inl p)) = absurd p
     shown (inr (inr d)) = elim d [ ]
+
+-- tests that agree below the bound have the same ranges
+same_choice : (s t : Bool) {x y z w : Expr} → s ≡ t → x ≡ z → y ≡ w → (if s then x else y) ≡ (if t then z else w)
+same_choice true true e f g = f
+same_choice false false e f g = g
+same_choice true false e f g = absurd (differ (sym e))
+  where
+    differ : false ≡ true → ⊥
+    differ d = cc
+same_choice false true e f g = absurd (differ e)
+  where
+    differ : false ≡ true → ⊥
+    differ d = cc
+
+pub ranges_alike : (test other : ℕ → Bool) (n : ℕ) (o : Option ℕ) (e : Expr) → ((b : ℕ) → b < n → test b ≡ other b) → ranges_below test n o e ≡ ranges_below other n o e
+ranges_alike test other zero None e h = refl
+ranges_alike test other zero (Some last) e h = refl
+ranges_alike test other (suc n) None e h =
+    same_choice (test n) (other n) (h n (omega arith)) (ranges_alike test other n (Some n) e (λ b l. h b (omega (arith, l)))) (ranges_alike test other n None e (λ b l. h b (omega (arith, l))))
+ranges_alike test other (suc n) (Some last) e h =
+    same_choice (test n) (other n) (h n (omega arith)) (ranges_alike test other n (Some last) e (λ b l. h b (omega (arith, l))))
+    (ranges_alike test other n None (either_of (range (suc n) last) e) (λ b l. h b (omega (arith, l))))

@@ -10,13 +10,14 @@ use Rattle.byte_forms.specs.Ranges.{ranges_below}
 use Rattle.byte_forms.specs.declared.class.ByteClass.{ByteClass}
 use Rattle.byte_forms.proofs.ByteLemmas.{byte_is_matched}
 use Rattle.page_policy.specs.Patterns.{Pattern, byte_of, void, seq, alt, any, some, maybe, in_ranges, is_meant, Fits, fits_byte, fits_void, fits_seq, fits_first, fits_second, fits_none, fits_more, fits_some, fits_absent, fits_present}
+use Rattle.page_policy.specs.Forms.{byte_form, form_of, FormsMatchWhatFits}
 use Rattle.page_policy.specs.Views.{IsClass}
 
 -- the expression matches exactly the texts that fit
-abbrev pub IsAs : Expr → Pattern → Type 0
+abbrev IsAs : Expr → Pattern → Type 0
 IsAs x p = (w : List ℕ) → Matches x w ↔ Fits p w
 
-pub void_as : IsAs empty void
+void_as : IsAs empty void
 void_as w = (forth, back)
   where
     forth : {w : List ℕ} → Matches empty w → Fits void w
@@ -25,7 +26,7 @@ void_as w = (forth, back)
     back : {w : List ℕ} → Fits void w → Matches empty w
     back fits_void = is_empty
 
-pub seq_as : (x y : Expr) (p q : Pattern) → IsAs x p → IsAs y q → IsAs (chain_of x y) (seq p q)
+seq_as : (x y : Expr) (p q : Pattern) → IsAs x p → IsAs y q → IsAs (chain_of x y) (seq p q)
 seq_as x y p q f g w = (λ d. forth (chain_shown x y d), λ d. chain_made x y (back d))
   where
     forth : {w : List ℕ} → Matches (chain x y) w → Fits (seq p q) w
@@ -34,7 +35,7 @@ seq_as x y p q f g w = (λ d. forth (chain_shown x y d), λ d. chain_made x y (b
     back : {w : List ℕ} → Fits (seq p q) w → Matches (chain x y) w
     back (fits_seq {u = u} {v = v} j d e) = is_chain j ((f u).1 d) ((g v).1 e)
 
-pub alt_as : (x y : Expr) (p q : Pattern) → IsAs x p → IsAs y q → IsAs (either_of x y) (alt p q)
+alt_as : (x y : Expr) (p q : Pattern) → IsAs x p → IsAs y q → IsAs (either_of x y) (alt p q)
 alt_as x y p q f g w = (λ d. forth (either_shown x y d), λ d. either_made x y (back d))
   where
     forth : {w : List ℕ} → Matches (either x y) w → Fits (alt p q) w
@@ -53,10 +54,10 @@ fits_star : (x : Expr) (p : Pattern) → IsAs x p → {w : List ℕ} → Fits (a
 fits_star x p f fits_none = is_over
 fits_star x p f (fits_more {u = u} j d e) = is_more j ((f u).1 d) (fits_star x p f e)
 
-pub any_as : (x : Expr) (p : Pattern) → IsAs x p → IsAs (star x) (any p)
+any_as : (x : Expr) (p : Pattern) → IsAs x p → IsAs (star x) (any p)
 any_as x p f w = (λ d. star_fits x p f d, λ d. fits_star x p f d)
 
-pub some_as : (x y : Expr) (p : Pattern) → IsAs x p → IsAs y (any p) → IsAs (chain_of x y) (some p)
+some_as : (x y : Expr) (p : Pattern) → IsAs x p → IsAs y (any p) → IsAs (chain_of x y) (some p)
 some_as x y p f g w = (λ d. forth (chain_shown x y d), λ d. chain_made x y (back d))
   where
     forth : {w : List ℕ} → Matches (chain x y) w → Fits (some p) w
@@ -65,7 +66,7 @@ some_as x y p f g w = (λ d. forth (chain_shown x y d), λ d. chain_made x y (ba
     back : {w : List ℕ} → Fits (some p) w → Matches (chain x y) w
     back (fits_some {u = u} {v = v} j d e) = is_chain j ((f u).1 d) ((g v).1 e)
 
-pub maybe_as : (x y : Expr) (p : Pattern) → IsAs x void → IsAs y p → IsAs (either_of x y) (maybe p)
+maybe_as : (x y : Expr) (p : Pattern) → IsAs x void → IsAs y p → IsAs (either_of x y) (maybe p)
 maybe_as x y p f g w = (λ d. forth (either_shown x y d), λ d. either_made x y (back d))
   where
     absent : {w : List ℕ} → Fits void w → Fits (maybe p) w
@@ -95,11 +96,21 @@ class_meant class out rs is b lt =
     at true e = ap not e
     at false e = e
 
-pub byte_as : (class : ByteClass) (out : Bool) (rs : List (ℕ × ℕ)) → IsClass class out rs → IsAs (ranges_below (in_class class) 256 None nothing) (byte_of out rs)
-byte_as class out rs is w = (λ d. forth ((byte_is_matched (in_class class) 256 w).0 d), λ d. (byte_is_matched (in_class class) 256 w).1 (back d))
+byte_as : (out : Bool) (rs : List (ℕ × ℕ)) → IsAs (byte_form (is_meant out rs)) (byte_of out rs)
+unfolding byte_form
+byte_as out rs w = (λ d. forth ((byte_is_matched (is_meant out rs) 256 w).0 d), λ d. (byte_is_matched (is_meant out rs) 256 w).1 (back d))
   where
-    forth : {w : List ℕ} → IsByteBelow (in_class class) 256 w → Fits (byte_of out rs) w
-    forth p = subst (λ (z : List ℕ). Fits (byte_of out rs) z) p.is (fits_byte p.below (sym (class_meant class out rs is p.byte p.below) ∙ p.passes))
+    forth : {w : List ℕ} → IsByteBelow (is_meant out rs) 256 w → Fits (byte_of out rs) w
+    forth p = subst (λ (z : List ℕ). Fits (byte_of out rs) z) p.is (fits_byte p.below p.passes)
 
-    back : {w : List ℕ} → Fits (byte_of out rs) w → IsByteBelow (in_class class) 256 w
-    back (fits_byte {b = b} lt h) = record { byte = b; below = lt; passes = class_meant class out rs is b lt ∙ h; is = refl }
+    back : {w : List ℕ} → Fits (byte_of out rs) w → IsByteBelow (is_meant out rs) 256 w
+    back (fits_byte {b = b} lt h) = record { byte = b; below = lt; passes = h; is = refl }
+
+pub forms_match : FormsMatchWhatFits
+forms_match (byte_of out rs) = byte_as out rs
+forms_match void = void_as
+forms_match (seq p q) = seq_as (form_of p) (form_of q) p q (forms_match p) (forms_match q)
+forms_match (alt p q) = alt_as (form_of p) (form_of q) p q (forms_match p) (forms_match q)
+forms_match (any p) = any_as (form_of p) p (forms_match p)
+forms_match (some p) = some_as (form_of p) (star (form_of p)) p (forms_match p) (any_as (form_of p) p (forms_match p))
+forms_match (maybe p) = maybe_as empty (form_of p) p void_as (forms_match p)

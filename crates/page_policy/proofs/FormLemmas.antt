@@ -10,45 +10,58 @@ use Rattle.derivatives.proofs.NodeLemmas.{expr_stays}
 use Rattle.byte_forms.specs.Classes.{in_class}
 use Rattle.byte_forms.specs.Ranges.{ranges_below}
 use Rattle.byte_forms.specs.declared.class.ByteClass.{ByteClass}
-use Rattle.page_policy.specs.Patterns.{Pattern, byte_of, void, seq, alt, any, some, maybe, Fits}
-use Rattle.page_policy.specs.Forms.{IsForm}
+use Rattle.byte_forms.proofs.ByteLemmas.{ranges_alike}
+use Rattle.page_policy.specs.Patterns.{Pattern, byte_of, void, seq, alt, any, some, maybe, is_meant}
+use Rattle.page_policy.specs.Forms.{byte_form, form_of, IsForm}
 use Rattle.page_policy.specs.Machine.{repeated}
 use Rattle.page_policy.specs.Views.{IsClass}
 use Rattle.page_policy.specs.declared.part.Repeat.{Repeat}
 use Rattle.page_policy.specs.declared.part.Repeat.TheVariants.{Any, AtLeastOnce, AtMostOnce}
-use Rattle.page_policy.proofs.FitLemmas.{IsAs, void_as, seq_as, alt_as, any_as, some_as, maybe_as, byte_as}
+use Rattle.page_policy.proofs.FitLemmas.{class_meant}
 
 -- what is made stays
 pub made_on : (a b : Arena) (n : ℕ) (p : Pattern) → Grows a b → IsForm a n p → IsForm b n p
 made_on a b n p g m =
     let s = expr_stays a b g n m.is_expr in
-    record { is_expr = s.is_expr; matches = λ w. subst (λ (e : Expr). Matches e w ↔ Fits p w) (sym s.is) (m.matches w) }
-
--- what is made of an expression that matches what fits
-made_as : (a : Arena) (n : ℕ) (x : Expr) (p : Pattern) → IsMade a n x → IsAs x p → IsForm a n p
-made_as a n x p m f = record { is_expr = m.is_expr; matches = λ w. subst (λ (e : Expr). Matches e w ↔ Fits p w) (sym m.is) (f w) }
+    record { is_expr = s.is_expr; is = s.is ∙ m.is }
 
 pub void_form : (a : Arena) (n : ℕ) → IsMade a n empty → IsForm a n void
-void_form a n m = made_as a n empty void m void_as
+void_form a n m = m
 
 pub seq_form : (a b : Arena) (x y r : ℕ) (p q : Pattern) → IsForm a x p → IsForm a y q → IsMade b r (chain_of (expr_at a x) (expr_at a y)) → IsForm b r (seq p q)
-seq_form a b x y r p q f g m = made_as b r (chain_of (expr_at a x) (expr_at a y)) (seq p q) m (seq_as (expr_at a x) (expr_at a y) p q f.matches g.matches)
+seq_form a b x y r p q f g m = record {
+  is_expr = m.is_expr;
+  is = m.is ∙ ap (λ (z : Expr). chain_of z (expr_at a y)) f.is ∙ ap (λ (z : Expr). chain_of (form_of p) z) g.is;
+}
 
 pub alt_form : (a b : Arena) (x y r : ℕ) (p q : Pattern) → IsForm a x p → IsForm a y q → IsMade b r (either_of (expr_at a x) (expr_at a y)) → IsForm b r (alt p q)
-alt_form a b x y r p q f g m = made_as b r (either_of (expr_at a x) (expr_at a y)) (alt p q) m (alt_as (expr_at a x) (expr_at a y) p q f.matches g.matches)
+alt_form a b x y r p q f g m = record {
+  is_expr = m.is_expr;
+  is = m.is ∙ ap (λ (z : Expr). either_of z (expr_at a y)) f.is ∙ ap (λ (z : Expr). either_of (form_of p) z) g.is;
+}
 
 pub any_form : (a b : Arena) (x r : ℕ) (p : Pattern) → IsForm a x p → IsMade b r (star (expr_at a x)) → IsForm b r (any p)
-any_form a b x r p f m = made_as b r (star (expr_at a x)) (any p) m (any_as (expr_at a x) p f.matches)
+any_form a b x r p f m = record { is_expr = m.is_expr; is = m.is ∙ ap star f.is }
 
 pub some_form : (a b : Arena) (x y r : ℕ) (p : Pattern) → IsForm a x p → IsForm a y (any p) → IsMade b r (chain_of (expr_at a x) (expr_at a y)) → IsForm b r (some p)
-some_form a b x y r p f g m = made_as b r (chain_of (expr_at a x) (expr_at a y)) (some p) m (some_as (expr_at a x) (expr_at a y) p f.matches g.matches)
+some_form a b x y r p f g m = record {
+  is_expr = m.is_expr;
+  is = m.is ∙ ap (λ (z : Expr). chain_of z (expr_at a y)) f.is ∙ ap (λ (z : Expr). chain_of (form_of p) z) g.is;
+}
 
 pub maybe_form : (a b : Arena) (x y r : ℕ) (p : Pattern) → IsForm a x void → IsForm a y p → IsMade b r (either_of (expr_at a x) (expr_at a y)) → IsForm b r (maybe p)
-maybe_form a b x y r p f g m = made_as b r (either_of (expr_at a x) (expr_at a y)) (maybe p) m (maybe_as (expr_at a x) (expr_at a y) p f.matches g.matches)
+maybe_form a b x y r p f g m = record {
+  is_expr = m.is_expr;
+  is = m.is ∙ ap (λ (z : Expr). either_of z (expr_at a y)) f.is ∙ ap (λ (z : Expr). either_of empty z) g.is;
+}
 
 pub byte_form_made : (a : Arena) (n : ℕ) (class : ByteClass) (out : Bool) (rs : List (ℕ × ℕ)) → IsMade a n (ranges_below (in_class class) 256 None nothing)
     → IsClass class out rs → IsForm a n (byte_of out rs)
-byte_form_made a n class out rs m is = made_as a n (ranges_below (in_class class) 256 None nothing) (byte_of out rs) m (byte_as class out rs is)
+unfolding byte_form
+byte_form_made a n class out rs m is = record {
+  is_expr = m.is_expr;
+  is = m.is ∙ ranges_alike (in_class class) (is_meant out rs) 256 None nothing (class_meant class out rs is);
+}
 
 -- What is made, where memory is left.
 

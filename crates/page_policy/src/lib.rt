@@ -18,7 +18,7 @@ mod reading;
 mod refusal;
 mod scan;
 
-pub use laws::a_file_spells_one_pattern;
+pub use laws::{a_file_spells_one_pattern, forms_match_what_fits};
 pub use pattern::Pattern;
 pub use reading::read_policy;
 pub use refusal::{OPEN_LIMIT, POLICY_LIMIT, PolicyRefusal};
