@@ -84,7 +84,8 @@ fn reason_text(alloc: Global, reason: Option<&[u8]>) -> Result<Bytes, NoMemory>
 {
     let mut text = match reason {
         None => {
-            let what = b"a number is one to eight decimal digits that are not all 0; match wants --policy FILE";
+            let what =
+                b"a number is one to eight decimal digits that are not all 0; match wants --policy FILE";
             Bytes::from_slice(alloc, what)?
         }
         Some(line) => shown_name(alloc, line)?,
