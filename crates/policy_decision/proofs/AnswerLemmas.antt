@@ -1,10 +1,14 @@
 -- What is found of the pages of a grammar is an answer for the program.
 use Rattle.std.proofs.Common.{◌≡◌, ℕ, List, [], ◌∷◌, map, refl, sym, ap, subst}
 use Rattle.std.specs.Prelude.{⊤, ◌↔◌}
+use Rattle.text_base.specs.declared.letter.Letter.{Letter}
 use Rattle.text_base.specs.declared.letter.Letter.TheVariants.{OfByte}
+use Rattle.text_base.specs.declared.numbers.Nt as nt
+use Rattle.cfg_grammar.specs.declared.production.Production.{Production}
 use Rattle.cfg_grammar.specs.declared.grammar.Grammar.{Grammar}
 use Rattle.derivations.specs.declared.derivation.Derivation.{Derivation}
 use Rattle.derivations.specs.Bytes.{bytes_in}
+use Rattle.derivations.specs.Stands.{IsDerivation}
 use Rattle.derivatives.specs.Expressions.{Expr, Matches}
 use Rattle.page_policy.specs.Patterns.{Pattern, Fits}
 use Rattle.page_policy.specs.Forms.{form_of, FormsMatchWhatFits}
@@ -14,10 +18,13 @@ use Rattle.loose_grammar.specs.Pages.{IsLoosePage, IsPageGrammar}
 use Rattle.script_decision.specs.declared.showing_pages.ShownPage.{ShownPage}
 use Rattle.script_decision.specs.Shows.{Shows}
 use Rattle.resolving.proofs.LetterLemmas.{same_text}
-use Rattle.script_decision.proofs.ShownLemmas.{ShowsEach}
 use Rattle.policy_decision.specs.declared.answer.PolicyAnswer.{PolicyAnswer}
 use Rattle.policy_decision.specs.declared.answer.PolicyAnswer.TheVariants as answer
 use Rattle.policy_decision.specs.Answers.{EachFits, IsShownMiss, IsPolicyAnswer, RunsFit, SaysOfRuns}
+
+-- this is shown of the bytes of each sentence that the derivation is one of
+abbrev pub ShowsEach : Derivation → ShownPage → Type 0
+ShowsEach derivation shown = (ps : List Production) (left : nt.Nt) (w : List Letter) → IsDerivation ps derivation.nodes.nodes.items left w → Shows (bytes_in w) shown
 
 -- the texts that the grammar of a program derives are its loose pages
 texts_are_pages : (program : PlainProgram) (grammar : Grammar) → IsPageGrammar program grammar → (page : List ℕ) → IsTextOf grammar page ↔ IsLoosePage program page
