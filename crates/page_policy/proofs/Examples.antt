@@ -22,7 +22,7 @@ a_fits = fits_first (fits_seq (joins.on at_once) (fits_byte (omega arith) refl) 
 
 bs_fit : Fits a_or_bs (98 ∷ 98 ∷ [])
 bs_fit = fits_second (fits_seq (joins.on (joins.on at_once))
-    (fits_more (joins.on at_once) (fits_byte (omega arith) refl) (fits_more (joins.on at_once) (fits_byte (omega arith) refl) fits_none)) fits_void)
+  (fits_more (joins.on at_once) (fits_byte (omega arith) refl) (fits_more (joins.on at_once) (fits_byte (omega arith) refl) fits_none)) fits_void)
 
 -- a range from a greater byte to a smaller one, and one without an end
 turned_is_none : range_at (codes "b-a]") ≡ None

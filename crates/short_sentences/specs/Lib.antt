@@ -1,0 +1,10 @@
+pub mod ShortPairs
+pub mod ShortAnswers
+pub mod Queues
+pub mod Tables
+pub mod Closed
+pub mod Joints
+pub mod Beginning
+pub mod Notes
+pub mod Taking
+pub mod Halts
