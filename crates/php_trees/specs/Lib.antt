@@ -1,5 +1,4 @@
 pub mod Kinds
 pub mod Values
 pub mod Actions
-pub mod Rules
 pub mod Reads

@@ -9,8 +9,6 @@
 #[cfg(test)]
 mod forms;
 #[cfg(test)]
-mod grammar_forms;
-#[cfg(test)]
 mod grammar_text;
 mod reading;
 mod rows;
