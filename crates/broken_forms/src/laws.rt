@@ -1,6 +1,7 @@
 //! The laws. Each function does nothing, and stands for the law that its contract states.
 
-ghost use Rattle.broken_forms.specs.Laws.{BrokenHaveBad, CoarseAreBroken, EndsAreSpelled, LooseEndOnce, LoosePiecesAreSpelled, LooseReferencesAreSpelled, LooseTagsAreSpelled};
+ghost use Rattle.broken_forms.specs.Laws.{BrokenHaveBad, CoarseAreBroken, EndsAreSpelled};
+ghost use Rattle.broken_forms.specs.Laws.{LooseEndOnce, LoosePiecesAreSpelled, LooseReferencesAreSpelled, LooseTagsAreSpelled};
 
 /// The loose tags.
 pub fn loose_tags_are_spelled()

@@ -2,7 +2,7 @@
 //! Promise: `class_form` makes the expression of the bytes of a class below a bound, neighbours as
 //! one range (`ranges_below` of specs/Ranges), which matches exactly one such byte
 //! (`a_byte_is_matched`).
-//! Used by: page_forms, page_policy.
+//! Used by: page_forms, coarse_forms, page_policy.
 #![tactic(auto)]
 
 mod class;

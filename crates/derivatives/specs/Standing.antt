@@ -2,7 +2,7 @@
 use Rattle.std.specs.Prelude.{◌≡◌, ◌<◌, ℕ, zero, suc, Bool, true, false, List, Option, Some, slice_get, length}
 use Rattle.numbered_sets.specs.Numbers.{Keeps}
 use Rattle.derivatives.specs.Expressions.{Expr, nothing, empty, range, chain, either, star, among, Members, none, member}
-use Rattle.derivatives.specs.Nodes.{IsExprAt, IsListAt}
+use Rattle.derivatives.specs.Nodes.{IsExprAt, IsListAt, AreParts}
 use Rattle.derivatives.specs.declared.arena.Arena.{Arena}
 use Rattle.derivatives.specs.declared.node.Node.{Node}
 use Rattle.derivatives.specs.declared.node.Node.TheVariants as node
@@ -37,6 +37,14 @@ abbrev mutual
 -- how many numbers there are: each below it stands for an expression or for members
 abbrev pub count_of : Arena → ℕ
 count_of arena = length arena.nodes.keys
+
+-- the node with a number, where there is one
+abbrev pub node_at : Arena → ℕ → Option Node
+node_at arena n = slice_get arena.nodes.keys n
+
+-- the parts of a node are there: expressions or members, as its kind asks for
+abbrev pub HasParts : Arena → Node → Type 0
+HasParts arena x = AreParts arena.nodes.keys x
 
 -- the number is that of an expression
 abbrev pub IsExpr : Arena → ℕ → Type 0

@@ -139,13 +139,17 @@ impl Arena {
         }
     }
 
-    /// Whether the one expression is an alternative of the other.
+    /// Whether the one expression is an alternative of the other. Alternatives have smaller numbers than what is made of them, so
+    /// what was made last is told at once.
     fn occurs(&self, x: usize, y: usize) -> bool
         requires first { IsExpr self.now x }
         requires second { IsExpr self.now y }
         ensures { result ≡ derivatives.occurs (expr_at self.now x) (expr_at self.now y) }
     {
         let _count = self.len();
+        if y < x {
+            return false;
+        }
         match self.alternatives(y) {
             Some((first, second)) => {
                 if first == x {

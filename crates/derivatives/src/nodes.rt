@@ -1,8 +1,8 @@
 //! Nodes of an arena: what a number stands for, and new ones.
 
-ghost use Rattle.std.specs.Prelude.{◌≡◌, ◌<◌, true, Some, slice_get, length, IfOk, IsTrue, ◌↔◌};
-ghost use Rattle.derivatives.specs.Nodes.{AreParts, AreBelow, is_expr_at, is_list_at};
-ghost use Rattle.derivatives.specs.Standing.{count_of, expr_of, members_of, expr_at, members_at, IsExpr, IsList, IsMade, IsListed, Grows, HasEachOnce};
+ghost use Rattle.std.specs.Prelude.{◌≡◌, ◌<◌, true, Some, IfOk, IsTrue, ◌↔◌};
+ghost use Rattle.derivatives.specs.Nodes.{AreBelow, is_expr_at, is_list_at};
+ghost use Rattle.derivatives.specs.Standing.{count_of, node_at, HasParts, expr_of, members_of, expr_at, members_at, IsExpr, IsList, IsMade, IsListed, Grows, HasEachOnce};
 
 use crate::arena::Arena;
 use crate::node::Node;
@@ -52,9 +52,9 @@ impl Arena {
     /// The node with this number.
     pub fn node(&self, place: usize) -> Node
         requires { place < count_of self.now }
-        ensures at { slice_get self.now.nodes.keys place ≡ Some result }
+        ensures at { node_at self.now place ≡ Some result }
         ensures below { AreBelow place result }
-        ensures parts { AreParts self.now.nodes.keys result }
+        ensures parts { HasParts self.now result }
         ensures expression { expr_at self.now place
             ≡ expr_of (expr_at self.now) (members_at self.now) (Some result) }
         ensures members { members_at self.now place
@@ -68,7 +68,7 @@ impl Arena {
 
     /// The number of a node, which is put behind the others where it is new.
     pub(crate) fn put(&mut self, node: Node) -> Result<usize, NoMemory>
-        requires { AreParts self.old.nodes.keys node }
+        requires { HasParts self.old node }
         ensures expression { is_expr_at (Some node) ≡ true → IfOk result
             (λ r. IsMade self.new r (expr_of (expr_at self.old) (members_at self.old) (Some node))) }
         ensures members { is_list_at (Some node) ≡ true → IfOk result
