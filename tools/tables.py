@@ -13,7 +13,8 @@ A grammar's text, which may stand in a file of code as r"..", has these lines, a
     left: X Y Z | X             rules; a line that begins with '|' has the left side of the line before
                                 !A in a right side: the rule does not stand before A, which has no level; no more does one that has a level
                                 !=A: the rule has the level of A; !loose: it has none; !closed: it stands before each token
-                = name, at the end: what the rule makes; of a grammar with such names src/actions.rt has an enum and a table
+                = name: what the rule makes; of a grammar with such names src/actions.rt has an enum and a table
+                ~ name, at the end: the form that the rule is where it is left out; src/forms.rt has a table, src/form.rt the enum
 
 The tables are LALR(1). Of what is written rules.rt, which is the grammar, and actions.rt are trusted, as far as no test compares them with
 the text; lr_tables checks the rest. Each rule that takes its level from a symbol behind its first three is printed: maybe it is loose.
@@ -28,7 +29,7 @@ WIDTH = 10  # symbols of a right side at most
 
 
 def parse(text):
-    """The tokens, the start, the rules with their marks and actions, and the levels, as names."""
+    """The tokens, the start, the rules with their marks, actions and forms, and the levels, as names."""
     tokens, start, rules, levels, left = [], None, [], [], None
     for line in text.splitlines():
         line = line.split('#')[0].rstrip()
@@ -48,10 +49,11 @@ def parse(text):
             else:
                 line = line.strip()[1:]
             for side in line.split('|'):
+                side, _, form = side.partition(' ~ ')
                 side, _, action = side.partition(' = ')
                 symbols = [word for word in side.split() if word[0] != '!']
                 marks = [word[1:] for word in side.split() if word[0] == '!']
-                rules.append((left, symbols, marks, action.strip()))
+                rules.append((left, symbols, marks, action.strip(), form.strip()))
     return tokens, start, rules, levels
 
 
@@ -68,12 +70,13 @@ class Grammar:
         number = {name: place for place, name in enumerate(self.names)}
         self.start = number[start]
         self.rules = [(number[left], [number[x] for x in side]) for left, side, *_ in rules]
-        self.actions = [action for *_, action in rules]
+        self.actions = [rule[3] for rule in rules]
+        self.forms = [rule[4] for rule in rules]
         self.rules_of = defaultdict(list)
         for place, (left, side) in enumerate(self.rules):
             assert len(side) <= WIDTH, self.names[left]
             self.rules_of[left].append(place)
-        self.set_powers(number, levels, [marks for _, _, marks, _ in rules])
+        self.set_powers(number, levels, [rule[2] for rule in rules])
         self.find_firsts()
         self.find_weights()
         self.find_samples()
@@ -370,17 +373,25 @@ def spelled(grammar, rule):
     return f'{grammar.names[left]}: {" ".join(grammar.names[x] for x in side)}'.rstrip()
 
 
-def actions_text(grammar):
-    def variant(action):
-        return ''.join(word.capitalize() for word in action.split('_')) or 'Outside'
+def variant(name, other):
+    return ''.join(word.capitalize() for word in name.split('_')) or other
 
+
+def forms_text(grammar):
+    lines = ['//! Which form each rule is, where it is left out. Made by tools/tables.py.', '', 'use crate::form::Form;', '',
+             '/// The form that each rule is, where the language leaves it out or what stands in it.',
+             f'pub const FORMS: [Form; {len(grammar.rules)}] = [']
+    return '\n'.join([*lines, *(f"    Form::{variant(form, 'Other')}," for form in grammar.forms), '];', ''])
+
+
+def actions_text(grammar):
     lines = ['//! What each rule makes. Made by tools/tables.py.', '', '/// What a rule makes of the values of its right side.',
              '#[derive(Clone, Copy, PartialEq, Eq)]', 'pub enum Action {', '    /// It makes nothing that the language has.', '    Outside,']
     for action in dict.fromkeys(filter(None, grammar.actions)):
         rules = [f'`{spelled(grammar, rule)}`' for rule, name in enumerate(grammar.actions) if name == action]
-        lines += [f'    /// {rules[0]}', *(f'    /// and {rule}' for rule in rules[1:]), f'    {variant(action)},']
+        lines += [f'    /// {rules[0]}', *(f'    /// and {rule}' for rule in rules[1:]), f"    {variant(action, 'Outside')},"]
     return '\n'.join([*lines, '}', '', '/// What each rule makes.', f'pub const ACTIONS: [Action; {len(grammar.rules)}] = [',
-                      *(f'    Action::{variant(action)},' for action in grammar.actions), '];', ''])
+                      *(f"    Action::{variant(action, 'Outside')}," for action in grammar.actions), '];', ''])
 
 
 def listed(items):
@@ -413,7 +424,8 @@ def certificate_text(tables):
 
 def write(tables, crate):
     actions = [('src/actions.rt', actions_text(tables.grammar))] if any(tables.grammar.actions) else []
-    for name, text in [('src/rows.rt', rows_text(tables)), ('src/rules.rt', rules_text(tables.grammar)), *actions,
+    forms = [('src/forms.rt', forms_text(tables.grammar))] if any(tables.grammar.forms) else []
+    for name, text in [('src/rows.rt', rows_text(tables)), ('src/rules.rt', rules_text(tables.grammar)), *actions, *forms,
                        ('specs/Certificate.antt', certificate_text(tables))]:
         with open(f'{crate}/{name}', 'w') as file:
             file.write(text)

@@ -55,14 +55,14 @@ pub const TEXT: &str = r"
 # Files. 'Basic syntax', 'Namespaces', 'Constants'.
 file: top_statements = pass
 top_statements: = no_parts
- | top_statements statement = next_part
+ | top_statements statement = next_part ~ jump
  | top_statements declaration = next_function
- | top_statements NAMESPACE new_namespace SEMI
- | top_statements NAMESPACE new_namespace BEGIN top_statements FINISH
- | top_statements NAMESPACE BEGIN top_statements FINISH
- | top_statements USE imports SEMI
- | top_statements CONST constants SEMI
- | top_statements HALT OPEN CLOSE SEMI
+ | top_statements NAMESPACE new_namespace SEMI ~ namespace
+ | top_statements NAMESPACE new_namespace BEGIN top_statements FINISH ~ namespace
+ | top_statements NAMESPACE BEGIN top_statements FINISH ~ namespace
+ | top_statements USE imports SEMI ~ use
+ | top_statements CONST constants SEMI ~ constant_definition
+ | top_statements HALT OPEN CLOSE SEMI ~ halt
 new_namespace: word
  | QUALIFIED
 namespace_name: NAME
@@ -91,45 +91,45 @@ constants: constant_item
  | constants COMMA constant_item
 constant_item: NAME given expression
 possible_comma: = absent
- | COMMA
+ | COMMA ~ last_comma
 
 # Statements. 'Control Structures', 'Alternative syntax for control structures', 'Exceptions',
 # 'Variable scope', 'PHP tags', 'Escaping from HTML'.
 statements: = no_statements
  | statements statement = next_statement
- | statements declaration
+ | statements declaration ~ inner_declaration
 statement: BEGIN statements FINISH = block
  | INLINE = inline
  | ECHO expressions SEMI = echo
  | whole SEMI = run
  | SEMI = empty_statement
- | NAME COLON
- | GOTO NAME SEMI
+ | NAME COLON ~ label
+ | GOTO NAME SEMI ~ goto
  | IF OPEN whole CLOSE statement rest = branch
  | IF OPEN whole CLOSE COLON statements colon_rest = colon_branch
  | WHILE OPEN whole CLOSE statement = while_loop
  | WHILE OPEN whole CLOSE COLON statements ENDWHILE SEMI = colon_while_loop
  | DO statement WHILE OPEN whole CLOSE SEMI = do_loop
- | FOR OPEN any_expressions SEMI any_expressions SEMI any_expressions CLOSE statement = for_loop
- | FOR OPEN any_expressions SEMI any_expressions SEMI any_expressions CLOSE colon_for = for_loop
- | FOREACH OPEN expression AS target CLOSE statement = each_loop
- | FOREACH OPEN expression AS target DOUBLE_ARROW target CLOSE statement = keyed_each_loop
- | FOREACH OPEN expression AS target CLOSE COLON statements ENDFOREACH SEMI = colon_each_loop
- | FOREACH OPEN expression AS target DOUBLE_ARROW target CLOSE colon_each = keyed_each_loop
- | SWITCH OPEN whole CLOSE BEGIN possible_semi cases FINISH
- | SWITCH OPEN whole CLOSE COLON possible_semi cases ENDSWITCH SEMI
+ | FOR OPEN any_expressions SEMI any_expressions SEMI any_expressions CLOSE statement = for_loop ~ conditions
+ | FOR OPEN any_expressions SEMI any_expressions SEMI any_expressions CLOSE colon_for = for_loop ~ conditions
+ | FOREACH OPEN expression AS target CLOSE statement = each_loop ~ loop_target
+ | FOREACH OPEN expression AS target DOUBLE_ARROW target CLOSE statement = keyed_each_loop ~ loop_target
+ | FOREACH OPEN expression AS target CLOSE COLON statements ENDFOREACH SEMI = colon_each_loop ~ loop_target
+ | FOREACH OPEN expression AS target DOUBLE_ARROW target CLOSE colon_each = keyed_each_loop ~ loop_target
+ | SWITCH OPEN whole CLOSE BEGIN possible_semi cases FINISH ~ switch
+ | SWITCH OPEN whole CLOSE COLON possible_semi cases ENDSWITCH SEMI ~ switch
  | BREAK SEMI = leave
- | BREAK expression SEMI
+ | BREAK expression SEMI ~ leave_loops
  | CONTINUE SEMI = turn
- | CONTINUE expression SEMI
+ | CONTINUE expression SEMI ~ leave_loops
  | RETURN SEMI = return_nothing
  | RETURN whole SEMI = return_value
- | GLOBAL globals SEMI
- | STATIC static_variables SEMI
+ | GLOBAL globals SEMI ~ global
+ | STATIC static_variables SEMI ~ static_variable
  | UNSET OPEN variables possible_comma CLOSE SEMI = unset
- | TRY BEGIN statements FINISH catches finally
- | DECLARE OPEN constants CLOSE statement
- | DECLARE OPEN constants CLOSE COLON statements ENDDECLARE SEMI
+ | TRY BEGIN statements FINISH catches finally ~ try
+ | DECLARE OPEN constants CLOSE statement ~ declare
+ | DECLARE OPEN constants CLOSE COLON statements ENDDECLARE SEMI ~ declare
 # An else belongs to the nearest if. 'else', 'elseif/else if'.
 rest: !ELSE !ELSEIF = no_rest
  | ELSE statement = other
@@ -140,9 +140,9 @@ colon_rest: ENDIF SEMI = no_rest
 colon_for: COLON statements ENDFOR SEMI = second
 colon_each: COLON statements ENDFOREACH SEMI = second
 target: variable = pass
- | ampersand variable
- | LIST OPEN elements CLOSE
- | FROM elements TO
+ | ampersand variable ~ reference
+ | LIST OPEN elements CLOSE ~ destructuring
+ | FROM elements TO ~ destructuring
 possible_semi:
  | SEMI
 cases:
@@ -174,14 +174,14 @@ named: word COLON
 # Functions and classes. 'Functions', 'Classes and Objects', 'Enumerations', 'Attributes', 'Type
 # declarations'.
 declaration: declared = pass
- | attributes declared
-declared: FUNCTION possible_ampersand function_name OPEN parameters CLOSE return_type BEGIN statements FINISH = function
- | class_modifiers CLASS NAME extends implements BEGIN members FINISH
- | INTERFACE NAME interface_extends BEGIN members FINISH
- | TRAIT NAME BEGIN members FINISH
- | ENUM NAME enum_type implements BEGIN members FINISH
+ | attributes declared ~ attribute
+declared: FUNCTION possible_ampersand function_name OPEN parameters CLOSE return_type BEGIN statements FINISH = function ~ reserved_name
+ | class_modifiers CLASS NAME extends implements BEGIN members FINISH ~ class
+ | INTERFACE NAME interface_extends BEGIN members FINISH ~ interface
+ | TRAIT NAME BEGIN members FINISH ~ trait
+ | ENUM NAME enum_type implements BEGIN members FINISH ~ enum
 function_name: NAME = pass
- | READONLY
+ | READONLY ~ reserved_name
 attributes: ATTRIBUTE attribute_list possible_comma TO
  | attributes ATTRIBUTE attribute_list possible_comma TO
 attribute_list: attribute
@@ -189,25 +189,25 @@ attribute_list: attribute
 attribute: class_name
  | class_name arguments
 possible_ampersand: = absent
- | ampersand
+ | ampersand ~ reference
 ampersand: AMPERSAND
  | REFERENCE
 parameters: = no_parameters
  | some_parameters possible_comma = pass
 some_parameters: parameter = pass
- | some_parameters COMMA parameter = next_parameter
+ | some_parameters COMMA parameter = next_parameter ~ equal_parameters
 parameter: plain_parameter = pass
- | attributes plain_parameter
-plain_parameter: promotions possible_type passing VARIABLE initial = parameter
+ | attributes plain_parameter ~ attribute
+plain_parameter: promotions possible_type passing VARIABLE initial = parameter ~ default
 promotions: = absent
- | promotions VISIBILITY
- | promotions READONLY
+ | promotions VISIBILITY ~ promotion
+ | promotions READONLY ~ promotion
 passing: = absent
- | REFERENCE
- | ELLIPSIS
- | REFERENCE ELLIPSIS
+ | REFERENCE ~ reference
+ | ELLIPSIS ~ variadic
+ | REFERENCE ELLIPSIS ~ reference
 possible_type: = absent
- | type
+ | type ~ type
 type: single_type
  | QUESTION single_type
  | union
@@ -226,10 +226,10 @@ intersection: NAME AMPERSAND name
  | RELATIVE AMPERSAND name
  | intersection AMPERSAND name
 return_type: = absent
- | COLON type
- | COLON STATIC
- | COLON QUESTION STATIC
- | COLON static_union
+ | COLON type ~ type
+ | COLON STATIC ~ type
+ | COLON QUESTION STATIC ~ type
+ | COLON static_union ~ type
 static_union: STATIC BAR union_part
  | single_type BAR STATIC
  | OPEN intersection CLOSE BAR STATIC
@@ -287,7 +287,7 @@ adapted: word
 # 'Generators', 'Arrays'. Within them `yield a => b` is `yield` with a key only at the end of a
 # whole one.
 whole: expression = pass
- | keyed
+ | keyed ~ yield
 keyed: YIELD expression DOUBLE_ARROW expression !loose
  | variable ASSIGN keyed !loose
  | variable UPDATE keyed !loose
@@ -299,60 +299,60 @@ expression: variable = pass
  | bracketed = pass
  | literal = pass
  | constant = pass
- | class_constant
+ | class_constant ~ class_constant
  | NUMBER = literal
- | HEREDOC pieces HEREDOC_END
- | HEREDOC HEREDOC_END
- | BACKQUOTE pieces BACKQUOTE
- | BACKQUOTE BACKQUOTE
- | variable ASSIGN expression = assign
- | variable ASSIGN ampersand variable !loose
- | LIST OPEN elements CLOSE ASSIGN expression
- | FROM elements TO ASSIGN expression
- | variable UPDATE expression = update
- | variable STEP = step_after
- | STEP variable = step_before
- | expression OR expression
- | expression XOR expression
- | expression AND expression
- | expression BOOL_OR expression = operate
- | expression BOOL_AND expression = operate
- | expression BAR expression
- | expression CARET expression
- | expression AMPERSAND expression
- | expression REFERENCE expression
- | expression EQUALITY expression = operate
- | expression COMPARISON expression = operate
- | expression DOT expression = operate
- | expression SHIFT expression
- | expression SUM expression = operate
- | expression PRODUCT expression = operate
- | expression POWER expression
+ | HEREDOC pieces HEREDOC_END ~ parts
+ | HEREDOC HEREDOC_END ~ parts
+ | BACKQUOTE pieces BACKQUOTE ~ shell_command
+ | BACKQUOTE BACKQUOTE ~ shell_command
+ | variable ASSIGN expression = assign ~ target
+ | variable ASSIGN ampersand variable !loose ~ reference
+ | LIST OPEN elements CLOSE ASSIGN expression ~ destructuring
+ | FROM elements TO ASSIGN expression ~ destructuring
+ | variable UPDATE expression = update ~ target
+ | variable STEP = step_after ~ step
+ | STEP variable = step_before ~ step
+ | expression OR expression ~ word_operator
+ | expression XOR expression ~ word_operator
+ | expression AND expression ~ word_operator
+ | expression BOOL_OR expression = operate ~ operator
+ | expression BOOL_AND expression = operate ~ operator
+ | expression BAR expression ~ bit_operator
+ | expression CARET expression ~ bit_operator
+ | expression AMPERSAND expression ~ bit_operator
+ | expression REFERENCE expression ~ bit_operator
+ | expression EQUALITY expression = operate ~ operator
+ | expression COMPARISON expression = operate ~ operator
+ | expression DOT expression = operate ~ operator
+ | expression SHIFT expression ~ bit_operator
+ | expression SUM expression = operate ~ operator
+ | expression PRODUCT expression = operate ~ operator
+ | expression POWER expression ~ power
  | expression COALESCE expression = coalesce
  | expression QUESTION expression COLON expression = choice
  | expression QUESTION COLON expression = short_choice
- | expression INSTANCEOF class_reference !=INSTANCEOF !closed
- | NOT expression = prefix
- | sign expression = prefix
- | CLONE expression
+ | expression INSTANCEOF class_reference !=INSTANCEOF !closed ~ instanceof
+ | NOT expression = prefix ~ prefix
+ | sign expression = prefix ~ prefix
+ | CLONE expression ~ clone
  | PRINT expression = print
- | INCLUDE expression = include
- | THROW expression
- | YIELD !=YIELD
- | YIELD expression
- | YIELD_FROM expression
+ | INCLUDE expression = include ~ include
+ | THROW expression ~ throw
+ | YIELD !=YIELD ~ yield
+ | YIELD expression ~ yield
+ | YIELD_FROM expression ~ yield
  | EXIT = exit
  | EXIT OPEN CLOSE = exit
  | EXIT OPEN whole CLOSE = exit_value
- | ISSET OPEN expressions possible_comma CLOSE = isset
- | EMPTY OPEN expression CLOSE = empty
+ | ISSET OPEN expressions possible_comma CLOSE = isset ~ isset
+ | EMPTY OPEN expression CLOSE = empty ~ isset
  | EVAL OPEN expression CLOSE = eval
- | created
- | closure
- | STATIC closure
- | attributes closure
- | attributes STATIC closure
- | MATCH OPEN whole CLOSE BEGIN arms FINISH
+ | created ~ new
+ | closure ~ closure
+ | STATIC closure ~ closure
+ | attributes closure ~ attribute
+ | attributes STATIC closure ~ attribute
+ | MATCH OPEN whole CLOSE BEGIN arms FINISH ~ match
 sign: SUM = pass
  | UNARY = pass
 bracketed: OPEN whole CLOSE = bracket
@@ -388,48 +388,48 @@ new_variable: simple
  | new_variable SCOPE simple
 arguments: OPEN CLOSE = no_arguments
  | OPEN some_arguments possible_comma CLOSE = second
- | OPEN ELLIPSIS CLOSE
+ | OPEN ELLIPSIS CLOSE ~ callable
 some_arguments: argument = first_argument
  | some_arguments COMMA argument = next_argument
 argument: whole = pass
- | named expression
- | ELLIPSIS expression
+ | named expression ~ named_argument
+ | ELLIPSIS expression ~ spread
 # Of elements one may be left out, in a list or at the end.
 elements: element = pass
- | elements COMMA element = next_element
+ | elements COMMA element = next_element ~ missing_item
 element: = hole
  | expression = element
  | expression DOUBLE_ARROW expression = keyed_element
- | ampersand variable
- | expression DOUBLE_ARROW ampersand variable
- | LIST OPEN elements CLOSE
- | expression DOUBLE_ARROW LIST OPEN elements CLOSE
- | ELLIPSIS expression
+ | ampersand variable ~ reference
+ | expression DOUBLE_ARROW ampersand variable ~ reference
+ | LIST OPEN elements CLOSE ~ destructuring
+ | expression DOUBLE_ARROW LIST OPEN elements CLOSE ~ destructuring
+ | ELLIPSIS expression ~ spread
 
 # Variables: what may be called, what may be written, what has members. 'Variables', 'Variable
 # variables', 'Variable functions', 'Strings', 'Scope Resolution Operator (::)'.
-callable_variable: VARIABLE = variable
- | DOLLAR simple
- | DOLLAR BEGIN whole FINISH
- | container FROM whole TO = member
- | container FROM TO = open_member
- | container ARROW property arguments
- | name arguments = call
- | class_name SCOPE method arguments
- | object SCOPE method arguments
- | callable_variable arguments
- | bracketed arguments
- | literal arguments
+callable_variable: VARIABLE = variable ~ variable
+ | DOLLAR simple ~ variable_variable
+ | DOLLAR BEGIN whole FINISH ~ variable_variable
+ | container FROM whole TO = member ~ empty_key
+ | container FROM TO = open_member ~ empty_key
+ | container ARROW property arguments ~ method
+ | name arguments = call ~ reserved_name
+ | class_name SCOPE method arguments ~ static_member
+ | object SCOPE method arguments ~ static_member
+ | callable_variable arguments ~ called_value
+ | bracketed arguments ~ called_value
+ | literal arguments ~ called_value
 variable: callable_variable = pass
- | container ARROW property
- | class_name SCOPE simple
- | object SCOPE simple
+ | container ARROW property ~ property
+ | class_name SCOPE simple ~ static_member
+ | object SCOPE simple ~ static_member
 object: variable = pass
  | bracketed = pass
- | literal
- | class_constant
+ | literal ~ literal_member
+ | class_constant ~ class_constant
 container: object = pass
- | constant
+ | constant ~ constant_member
 simple: VARIABLE
  | DOLLAR simple
  | DOLLAR BEGIN whole FINISH
@@ -439,21 +439,21 @@ property: NAME
 method: word
  | BEGIN whole FINISH
  | simple
-constant: name = constant
- | MAGIC
+constant: name = constant ~ constant
+ | MAGIC ~ magic_constant
 class_constant: class_name SCOPE word
  | object SCOPE word
 class_name: name
  | STATIC
 name: NAME = pass
- | QUALIFIED
- | ROOTED
- | RELATIVE
+ | QUALIFIED ~ qualified_name
+ | ROOTED ~ qualified_name
+ | RELATIVE ~ qualified_name
 literal: TEXT = literal
  | TEMPLATE = literal
- | QUOTE pieces QUOTE
- | ARRAY OPEN elements CLOSE = named_array
- | FROM elements TO = array
+ | QUOTE pieces QUOTE ~ parts
+ | ARRAY OPEN elements CLOSE = named_array ~ missing_item
+ | FROM elements TO = array ~ missing_item
 pieces: piece
  | pieces piece
 piece: PIECE

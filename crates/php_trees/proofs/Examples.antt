@@ -8,7 +8,7 @@ use Rattle.php_syntax.specs.Trees.{int_expr, var_expr, neg_expr, join_expr, arit
 use Rattle.lr_tables.specs.declared.event.Event as event
 use Rattle.lr_tables.specs.Machine.{Answer, Read, Wrong, Going, run}
 use Rattle.lr_tables.specs.Checks.{paid, weight_of}
-use Rattle.lr_tables.specs.Values.{kinds, make, HasValue}
+use Rattle.lr_tables.specs.Values.{Meaning, kinds, make, HasValue}
 use Rattle.lr_tables.proofs.Basics.{read_is}
 use Rattle.lr_tables.proofs.Sound.{is_sound}
 use Rattle.lr_tables.proofs.Complete.{is_complete, moves_of, tables_of}
@@ -21,12 +21,12 @@ use Rattle.php_trees.specs.Values.{Value}
 use Rattle.php_trees.specs.Reads.{language, ReadAs}
 
 -- the stack that is made of tokens, if the machine reads them in so many turns
-abbrev made_of : Answer → List PlainKind → Option (List Value)
-made_of (Read es) ks = make php.grammar language es ks []
-made_of (Wrong left) ks = None
-made_of (Going stack left) ks = None
+abbrev made_of : (m : Meaning) → Answer → List m.Token → Option (List m.Value)
+made_of m (Read es) ks = make php.grammar m es ks []
+made_of m (Wrong left) ks = None
+made_of m (Going stack left) ks = None
 
-made_is : {v w : Value} → v ∷ [] ≡ w ∷ [] → v ≡ w
+made_is : {A : Type 0} {v w : A} → v ∷ [] ≡ w ∷ [] → v ≡ w
 made_is e = cc
 
 some_is : {A : Type 0} {a b : A} → Some a ≡ Some b → a ≡ b
@@ -36,12 +36,12 @@ none_made : {A : Type 0} {a : A} → None ≡ Some a → ⊥
 none_made e = cc
 
 -- what the machine reads, and the actions make, is read
-pub has_value : (answer : Answer) (n : ℕ) (ks : List PlainKind) (v : Value) → run php n [] (kinds language ks) ≡ answer → made_of answer ks ≡ Some (v ∷ []) → HasValue php.grammar language ks v
-has_value (Read es) n ks v is h =
-    let m = are_meant php.grammar language ks es (v ∷ []) (is_sound php (moves_of php certificate are_good) n (kinds language ks) es is) h in
-    subst (HasValue php.grammar language ks) (sym (made_is m.1)) m.2
-has_value (Wrong left) n ks v is h = absurd (none_made h)
-has_value (Going stack left) n ks v is h = absurd (none_made h)
+pub has_value : (m : Meaning) (answer : Answer) (n : ℕ) (ks : List m.Token) (v : m.Value) → run php n [] (kinds m ks) ≡ answer → made_of m answer ks ≡ Some (v ∷ []) → HasValue php.grammar m ks v
+has_value m (Read es) n ks v is h =
+    let a = are_meant php.grammar m ks es (v ∷ []) (is_sound php (moves_of php certificate are_good) n (kinds m ks) es is) h in
+    subst (HasValue php.grammar m ks) (sym (made_is a.1)) a.2
+has_value m (Wrong left) n ks v is h = absurd (none_made h)
+has_value m (Going stack left) n ks v is h = absurd (none_made h)
 
 -- what the machine reads, and the actions make nothing of, has no value
 no_value : (es : List event.Event) (n : ℕ) (ks : List PlainKind) (v : Value) → run php n [] (kinds language ks) ≡ Read es
@@ -65,7 +65,7 @@ sum = variable (codes "x") ∷ sign signs.Assign ∷ integer (pos 1) ∷ sign si
 
 sum_is_read : ReadAs (spelled sum) (body (more_stmts (run_stmt (assign_expr (codes "x") no_keys (arith_expr arith_sign.Add (int_expr (pos 1)) (arith_expr arith_sign.Mul (int_expr (pos 2)) (int_expr (pos 3)))))) no_stmts))
 unfolding run make php stmts_fit stmt_fits expr_fits path_fits
-sum_is_read = record { derived = has_value _ 60 sum _ refl refl; fits = refl }
+sum_is_read = record { derived = has_value language _ 60 sum _ refl refl; fits = refl }
 
 abbrev only_stmt : PlainStmt → PlainStmts
 only_stmt s = more_stmts s no_stmts
@@ -83,8 +83,8 @@ nested = name (codes "if") ∷ sign signs.OpenParen ∷ variable (codes "a") ∷
 -- the else belongs to the inner if, and names of functions are kept in lower case
 nested_is_read : ReadAs (spelled nested) (body (only_stmt (if_stmt (more_arms (var_expr (codes "a"))
     (only_stmt (if_stmt (more_arms (var_expr (codes "b")) (called (codes "c")) no_arms) (called (codes "d")))) no_arms) no_stmts)))
-unfolding run make php stmts_fit stmt_fits arms_fit expr_fits exprs_fit
-nested_is_read = record { derived = has_value _ 90 nested _ refl refl; fits = refl }
+unfolding run make php stmts_fit stmt_fits arms_fit expr_fits exprs_fit path_fits
+nested_is_read = record { derived = has_value language _ 90 nested _ refl refl; fits = refl }
 
 -- -$x;
 abbrev negated : List PlainKind
@@ -100,8 +100,8 @@ two = name (codes "if") ∷ sign signs.OpenParen ∷ variable (codes "a") ∷ si
 
 -- behind an if without else the next statement begins with any operator that may begin one
 two_are_read : ReadAs (spelled two) (body (more_stmts (if_stmt (more_arms (var_expr (codes "a")) (called (codes "f")) no_arms) no_stmts) negation))
-unfolding run make php stmts_fit stmt_fits arms_fit expr_fits exprs_fit
-two_are_read = record { derived = has_value _ 90 two _ refl refl; fits = refl }
+unfolding run make php stmts_fit stmt_fits arms_fit expr_fits exprs_fit path_fits
+two_are_read = record { derived = has_value language _ 90 two _ refl refl; fits = refl }
 
 -- if ($a): f(); elseif ($b): g(); endif; -$x;
 abbrev armed : List PlainKind
@@ -113,23 +113,23 @@ armed = name (codes "if") ∷ sign signs.OpenParen ∷ variable (codes "a") ∷ 
 -- the same behind arms with colons
 armed_is_read : ReadAs (spelled armed) (body (more_stmts (if_stmt (more_arms (var_expr (codes "a")) (called (codes "f"))
     (more_arms (var_expr (codes "b")) (called (codes "g")) no_arms)) no_stmts) negation))
-unfolding run make php stmts_fit stmt_fits arms_fit expr_fits exprs_fit
-armed_is_read = record { derived = has_value _ 120 armed _ refl refl; fits = refl }
+unfolding run make php stmts_fit stmt_fits arms_fit expr_fits exprs_fit path_fits
+armed_is_read = record { derived = has_value language _ 120 armed _ refl refl; fits = refl }
 
 -- $a . $b . $c; is one flat join
 abbrev joins : List PlainKind
 joins = variable (codes "a") ∷ sign signs.Dot ∷ variable (codes "b") ∷ sign signs.Dot ∷ variable (codes "c") ∷ sign signs.Semicolon ∷ []
 
 joins_are_read : ReadAs (spelled joins) (body (only_stmt (run_stmt (join_expr (more_exprs (var_expr (codes "a")) (more_exprs (var_expr (codes "b")) (more_exprs (var_expr (codes "c")) no_exprs)))))))
-unfolding run make php stmts_fit stmt_fits expr_fits exprs_fit
-joins_are_read = record { derived = has_value _ 60 joins _ refl refl; fits = refl }
+unfolding run make php stmts_fit stmt_fits expr_fits exprs_fit path_fits
+joins_are_read = record { derived = has_value language _ 60 joins _ refl refl; fits = refl }
 
 -- !$x = 1; is PHP, and outside of the language
 abbrev operand : List PlainKind
 operand = sign signs.Not ∷ variable (codes "x") ∷ sign signs.Assign ∷ integer (pos 1) ∷ sign signs.Semicolon ∷ []
 
 operand_has_no_value : (v : Value) → HasValue php.grammar language operand v → ⊥
-unfolding run make php
+unfolding run make php stmts_fit stmt_fits expr_fits path_fits
 operand_has_no_value v h = no_value _ 40 operand v refl (omega arith) refl h
 
 -- class A { } is PHP too, and outside of the language
@@ -137,7 +137,7 @@ abbrev class_a : List PlainKind
 class_a = name (codes "class") ∷ name (codes "A") ∷ sign signs.OpenBrace ∷ sign signs.CloseBrace ∷ []
 
 class_has_no_value : (v : Value) → HasValue php.grammar language class_a v → ⊥
-unfolding run make php
+unfolding run make php stmts_fit stmt_fits expr_fits path_fits
 class_has_no_value v h = no_value _ 40 class_a v refl (omega arith) refl h
 
 -- and so is $x = $y = 1 < 2 and 3;
@@ -146,5 +146,5 @@ loosely = variable (codes "x") ∷ sign signs.Assign ∷ variable (codes "y") �
     ∷ name (codes "and") ∷ integer (pos 3) ∷ sign signs.Semicolon ∷ []
 
 loosely_has_no_value : (v : Value) → HasValue php.grammar language loosely v → ⊥
-unfolding run make php
+unfolding run make php stmts_fit stmt_fits expr_fits path_fits
 loosely_has_no_value v h = no_value _ 70 loosely v refl (omega arith) refl h

@@ -9,10 +9,12 @@ use Rattle.php_syntax.specs.declared.tree.SuperName.TheVariants as request
 use Rattle.php_syntax.specs.Tokens.{PlainKind, inline, variable, name, integer, text, template, sign, plain_part, read_part}
 use Rattle.php_syntax.specs.Trees.{PlainExpr, null_expr, flag_expr, int_expr, text_expr, var_expr, super_expr, member_expr, array_expr, join_expr, neg_expr, not_expr, arith_expr, compare_expr, and_expr, or_expr, coalesce_expr, choice_expr, isset_expr, empty_expr, assign_expr, update_expr, step_expr, call_expr, no_expr, some_expr, PlainExprs, no_exprs, more_exprs, no_items, more_items, no_keys, more_keys, PlainStmt, inline_stmt, echo_stmt, run_stmt, if_stmt, while_stmt, do_while_stmt, for_stmt, each_stmt, break_stmt, continue_stmt, return_stmt, include_stmt, quit_stmt, PlainStmts, no_stmts, more_stmts, no_arms, more_arms}
 use Rattle.lr_tables.specs.Machine.{run}
-use Rattle.lr_tables.specs.Values.{make, HasValue}
+use Rattle.lr_tables.specs.Values.{Meaning, make, HasValue}
 use Rattle.php_grammar.specs.Php.{php}
 use Rattle.script_grammar.specs.Rules.{stmts_fit, stmt_fits, arms_fit, expr_fits, maybe_fits, exprs_fit, items_fit, path_fits}
-use Rattle.php_trees.specs.Values.{file}
+use Rattle.php_trees.specs.Kinds.{kind_of}
+use Rattle.php_trees.specs.Values.{Value, leaf, file}
+use Rattle.php_trees.specs.Actions.{act}
 use Rattle.php_trees.specs.Reads.{language, ReadAs}
 use Rattle.php_trees.proofs.Examples.{has_value, spelled, body, called}
 
@@ -92,7 +94,7 @@ loops_are_read : ReadAs (spelled loops) (body (row (
     ∷ each_stmt var_a (Some (codes "k")) (codes "x") call_f
     ∷ [])))
 unfolding run make php stmts_fit stmt_fits arms_fit expr_fits maybe_fits exprs_fit items_fit path_fits
-loops_are_read = record { derived = has_value _ 530 loops _ refl refl; fits = refl }
+loops_are_read = record { derived = has_value language _ 530 loops _ refl refl; fits = refl }
 
 -- texts, empty statements, blocks, what prints, the ends of a run; `exit` prints no number ("exit")
 abbrev others : List PlainKind
@@ -112,19 +114,23 @@ others_are_read : ReadAs (spelled others) (body (row (
     ∷ quit_stmt (some_expr (text_expr (codes "x")))
     ∷ [])))
 unfolding run make php stmts_fit stmt_fits arms_fit expr_fits maybe_fits exprs_fit items_fit path_fits
-others_are_read = record { derived = has_value _ 155 others _ refl refl; fits = refl }
+others_are_read = record { derived = has_value language _ 155 others _ refl refl; fits = refl }
 
 -- includes; that the name of their file is UTF-8 is not computed here
 abbrev includes : List PlainKind
 includes =
     name (codes "include") ∷ text (codes "a.php") ∷ semi ∷ name (codes "REQUIRE") ∷ opens ∷ text (codes "a.php") ∷ closes ∷ semi ∷ []
 
-includes_have_value : HasValue php.grammar language includes (file (body (row (
+-- derivations without the rules beside the grammar
+abbrev unruled : Meaning
+unruled = record { Token = PlainKind; Value = Value; kind = kind_of; leaf = leaf; act = act }
+
+includes_have_value : HasValue php.grammar unruled includes (file (body (row (
     include_stmt (codes "a.php")
     ∷ include_stmt (codes "a.php")
     ∷ []))))
 unfolding run make php
-includes_have_value = has_value _ 50 includes _ refl refl
+includes_have_value = has_value unruled _ 50 includes _ refl refl
 
 -- branches, in both forms
 abbrev branches : List PlainKind
@@ -141,7 +147,7 @@ branches_are_read : ReadAs (spelled branches) (body (row (
     ∷ if_stmt (more_arms var_a call_f (more_arms var_b (called (codes "g")) (more_arms var_c (called (codes "h")) no_arms))) (called (codes "i"))
     ∷ [])))
 unfolding run make php stmts_fit stmt_fits arms_fit expr_fits maybe_fits exprs_fit items_fit path_fits
-branches_are_read = record { derived = has_value _ 300 branches _ refl refl; fits = refl }
+branches_are_read = record { derived = has_value language _ 300 branches _ refl refl; fits = refl }
 
 -- functions, and literals as defaults of parameters
 abbrev functions : List PlainKind
@@ -159,7 +165,7 @@ functions_are_read : ReadAs (spelled functions) (record {
       ∷ record { name_of = codes "g"; params_of = []; body_of = row (return_stmt no_expr ∷ []) } ∷ [];
 })
 unfolding run make php stmts_fit stmt_fits arms_fit expr_fits maybe_fits exprs_fit items_fit path_fits
-functions_are_read = record { derived = has_value _ 185 functions _ refl refl; fits = refl }
+functions_are_read = record { derived = has_value language _ 185 functions _ refl refl; fits = refl }
 
 -- assignments, and steps
 abbrev writes : List PlainKind
@@ -174,7 +180,7 @@ writes_are_read : ReadAs (spelled writes) (body (row (
     ∷ run_stmt (step_expr (codes "i") false true)
     ∷ [])))
 unfolding run make php stmts_fit stmt_fits arms_fit expr_fits maybe_fits exprs_fit items_fit path_fits
-writes_are_read = record { derived = has_value _ 135 writes _ refl refl; fits = refl }
+writes_are_read = record { derived = has_value language _ 135 writes _ refl refl; fits = refl }
 
 -- operands
 abbrev operands : List PlainKind
@@ -201,7 +207,7 @@ operands_are_read : ReadAs (spelled operands) (body (row (
     ∷ []))
     ∷ [])))
 unfolding run make php stmts_fit stmt_fits arms_fit expr_fits maybe_fits exprs_fit items_fit path_fits
-operands_are_read = record { derived = has_value _ 240 operands _ refl refl; fits = refl }
+operands_are_read = record { derived = has_value language _ 240 operands _ refl refl; fits = refl }
 
 -- operators, and calls; `%` binds tighter than `-`, `.` tighter than `==` ("Operator Precedence")
 abbrev operators : List PlainKind
@@ -230,4 +236,4 @@ operators_are_read : ReadAs (spelled operators) (body (row (
     ∷ []))
     ∷ [])))
 unfolding run make php stmts_fit stmt_fits arms_fit expr_fits maybe_fits exprs_fit items_fit path_fits
-operators_are_read = record { derived = has_value _ 285 operators _ refl refl; fits = refl }
+operators_are_read = record { derived = has_value language _ 285 operators _ refl refl; fits = refl }

@@ -1,4 +1,5 @@
 pub mod Kinds
 pub mod Values
 pub mod Actions
+pub mod Rules
 pub mod Reads

@@ -268,8 +268,12 @@ fn powers_of(left: &str, text: &'static str) -> (u16, u16) {
 }
 
 // Whether a right side with its marks, and what stands behind its ` = `, is that of a rule with
-// its left side.
+// its left side; the form behind ` ~ ` is compared elsewhere.
 fn is_rule(text: &'static str, rule: &Rule, action: Action) -> bool {
+    let text = match text.split_once(" ~ ") {
+        Some((text, _)) => text,
+        None => text,
+    };
     let (side, word) = match text.split_once(" = ") {
         Some((side, word)) => (side, word),
         None => (text, ""),

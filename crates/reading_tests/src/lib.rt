@@ -9,6 +9,8 @@
 #[cfg(test)]
 mod forms;
 #[cfg(test)]
+mod grammar_forms;
+#[cfg(test)]
 mod grammar_text;
 mod reading;
 mod rows;
