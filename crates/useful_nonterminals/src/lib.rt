@@ -2,7 +2,7 @@
 //! others.
 //! Promise: `useful_nonterminals` marks exactly those (`exact`, over `IsUseful` of specs/Useful);
 //! `trim` keeps the sentences, and no useless one but the start (`IsTrimmed` of specs/Trimmed).
-//! Used by page_decision, summary_decision, op_bytes, set_tables and others.
+//! Used by page_decision, summary_decision, op_bytes, system_writing and others.
 #![tactic(auto)]
 
 mod drawing;
