@@ -1,21 +1,17 @@
 -- Each set has all that the system by the sets has at what stands for it.
-use Rattle.std.proofs.Common.{◌≡◌, ◌∙◌, ◌+◌, ◌<◌, ◌≤◌, ℕ, zero, suc, List, [], ◌∷◌, ◌++◌, Contains, Some, inl, inr, refl, sym, ap, subst, arith}
-use Rattle.std.specs.Prelude.{◌⊎◌, slice_get, slice_index_or}
+use Rattle.std.proofs.Common.{◌≡◌, ◌∙◌, ◌+◌, ◌<◌, ◌≤◌, ℕ, zero, suc, List, [], ◌∷◌, Contains, Some, inl, inr, refl, sym, ap, subst, arith}
+use Rattle.std.specs.Prelude.{slice_get}
 use Rattle.std.proofs.lemmas.Option.{slice_get-get_or}
-use Rattle.text_base.specs.declared.byte_range.ByteRange.{ByteRange}
-use Rattle.text_base.specs.declared.page_token.PageToken.{PageToken}
 use Rattle.text_base.specs.declared.numbers.Nt as nt
-use Rattle.text_base.specs.ByteRange.{InRange}
 use Rattle.cfg_grammar.specs.declared.symbol.Symbol.{Symbol}
 use Rattle.cfg_grammar.specs.declared.symbol.Symbol.TheVariants.{Range, Token, Nt}
 use Rattle.cfg_grammar.specs.declared.production.Right.{Right}
 use Rattle.cfg_grammar.specs.declared.production.Right.TheVariants.{Empty, One, Two}
 use Rattle.cfg_grammar.specs.declared.production.Production.{Production}
 use Rattle.op_system.specs.declared.op.Op.{Op}
-use Rattle.op_system.specs.declared.op.Op.TheVariants.{Any}
 use Rattle.op_system.specs.declared.system.OpRule.{OpRule}
 use Rattle.op_system.specs.declared.system.OpSystem.{OpSystem}
-use Rattle.least_sets.specs.Forms.{Form, names, text_form, same_form, join_form, apply_form}
+use Rattle.least_sets.specs.Forms.{Form, names, same_form, join_form, apply_form}
 use Rattle.least_sets.specs.Sets.{DependsOn, IsCircular}
 use Rattle.least_sets.specs.Simulations.{TakesOver}
 use Rattle.least_sets.specs.Systems.{SystemRow}
@@ -23,8 +19,8 @@ use Rattle.op_bytes.specs.Texts.{RowOf}
 use Rattle.op_bytes.specs.Cycles.{AreNumbers, IsInCycle}
 use Rattle.op_bytes.proofs.EdgeLemmas.{left_below, right_below, rule_left_below, operand_below}
 use Rattle.op_bytes.proofs.ListLemmas.{none_in, one_of, only_in, first_in, later_in}
-use Rattle.equal_sets.specs.Sets.{set_of, symbol_of, right_of, production_of, rule_of}
-use Rattle.equal_sets.specs.Alike.{number_of, IsEqual, IsAlias}
+use Rattle.equal_sets.specs.Sets.{set_of, symbol_of, right_of}
+use Rattle.equal_sets.specs.Alike.{number_of}
 use Rattle.equal_sets.specs.Fit.{Joins, IsFit}
 use Rattle.equal_sets.specs.Written.{IsProductionOf, IsRuleOf, AreProductionsOf, AreRulesOf}
 

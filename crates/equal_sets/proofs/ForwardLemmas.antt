@@ -1,10 +1,8 @@
 -- The system by the sets has, at what stands for each set, all that the system has there.
 use Rattle.std.proofs.Common.{◌≡◌, ◌∙◌, ℕ, false, List, [], ◌∷◌, Contains, refl, sym, ap, subst}
-use Rattle.text_base.specs.declared.byte_range.ByteRange.{ByteRange}
 use Rattle.text_base.specs.declared.numbers.Nt as nt
-use Rattle.text_base.specs.ByteRange.{InRange}
 use Rattle.cfg_grammar.specs.declared.symbol.Symbol.{Symbol}
-use Rattle.cfg_grammar.specs.declared.symbol.Symbol.TheVariants.{Range, Token, Nt}
+use Rattle.cfg_grammar.specs.declared.symbol.Symbol.TheVariants.{Nt}
 use Rattle.cfg_grammar.specs.declared.production.Right.{Right}
 use Rattle.cfg_grammar.specs.declared.production.Right.TheVariants.{Empty, One, Two}
 use Rattle.cfg_grammar.specs.declared.production.Production.{Production}
@@ -16,7 +14,6 @@ use Rattle.least_sets.specs.Simulations.{TakesOver, Holds, Alike, is_same, HasRo
 use Rattle.least_sets.specs.Systems.{SystemRow}
 use Rattle.op_bytes.specs.Texts.{RowOf}
 use Rattle.equal_sets.specs.Sets.{set_of, symbol_of, right_of, production_of, rule_of}
-use Rattle.equal_sets.specs.Alike.{IsEqual, IsAlias}
 use Rattle.equal_sets.specs.Fit.{Joins, IsFit}
 use Rattle.equal_sets.specs.Written.{AreProductionsOf, AreRulesOf}
 

@@ -1,21 +1,17 @@
 -- From places of rows to rows.
-use Rattle.std.proofs.Common.{◌≡◌, ◌∙◌, ◌<◌, ◌≤◌, ◌↔◌, ◌+◌, ℕ, zero, suc, Bool, true, false, List, [], ◌∷◌, length, get_or, map, Some, None, Contains, inl, inr, refl, sym, ap, subst, arith}
-use Rattle.std.specs.Prelude.{◌⊎◌, ◌==◌, slice_get}
-use Rattle.std.specs.List.{All, list_all}
-use Rattle.std.proofs.lemmas.Bool.{cases_lt}
-use Rattle.std.proofs.lemmas.Option.{slice_get_within, slice_get-get_or, get_or_from_slice_get, same_Some, slice_get_read}
+use Rattle.std.proofs.Common.{◌≡◌, ◌∙◌, ◌<◌, ◌↔◌, ℕ, zero, suc, true, false, List, [], length, get_or, map, Some, Contains, sym, ap, subst, arith}
+use Rattle.std.specs.Prelude.{◌==◌, slice_get}
+use Rattle.std.specs.List.{All}
+use Rattle.std.proofs.lemmas.Option.{slice_get_within, slice_get-get_or, same_Some}
 use Rattle.std.proofs.lemmas.Map.Views.{exact_unsigned_eq}
 use Rattle.text_base.specs.declared.numbers.Nt as nt
 use Rattle.cfg_grammar.specs.declared.production.Production.{Production}
-use Rattle.cfg_grammar.specs.Below.{production_below}
-use Rattle.op_system.specs.declared.op.Op.{Op}
 use Rattle.op_system.specs.declared.system.OpRule.{OpRule}
 use Rattle.op_system.specs.declared.system.OpSystem.{OpSystem}
-use Rattle.op_system.specs.Rules.{rule_below}
-use Rattle.op_bytes.proofs.ListLemmas.{placed, contained, of_map, to_map}
+use Rattle.op_bytes.proofs.ListLemmas.{placed, contained, to_map}
 use Rattle.op_bytes.proofs.EdgeLemmas.{left_below, rule_left_below}
 use Rattle.equal_sets.specs.Sets.{right_of}
-use Rattle.equal_sets.specs.Alike.{number_of, AreAlikeAt, AreSame, AreSameAt, ArePaired, HasRights, HasRules, IsEqual, LeadsLower, IsLower, IsAlias}
+use Rattle.equal_sets.specs.Alike.{AreAlikeAt, AreSame, AreSameAt, ArePaired, HasRights, HasRules, IsEqual, LeadsLower, IsLower, IsAlias}
 use Rattle.equal_sets.proofs.SetLemmas.{same_nt}
 
 -- these are the places of a number in a list of keys

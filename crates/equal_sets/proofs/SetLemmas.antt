@@ -1,6 +1,6 @@
 -- One nonterminal more has another that stands for it.
-use Rattle.std.proofs.Common.{◌≡◌, ◌≢◌, ◌∙◌, ◌+◌, ◌<◌, ◌≤◌, ℕ, Bool, true, false, List, [], ◌∷◌, ◌++◌, length, set, Contains, inl, inr, refl, sym, ap, subst, arith}
-use Rattle.std.specs.Prelude.{◌⊎◌, slice_index_or}
+use Rattle.std.proofs.Common.{◌≡◌, ◌∙◌, ◌+◌, ◌<◌, ◌≤◌, ℕ, Bool, true, false, List, [], ◌∷◌, ◌++◌, length, set, inl, inr, refl, sym, ap, subst, arith}
+use Rattle.std.specs.Prelude.{◌⊎◌}
 use Rattle.std.proofs.lemmas.Bool.{cases_eq, cases_lt}
 use Rattle.std.proofs.lemmas.List.{length-set, get_or-set_same, get_or-set_other, get_or_past, get_or_push, get_or_append_left, length_push}
 use Rattle.text_base.specs.declared.numbers.Nt as nt
@@ -10,7 +10,7 @@ use Rattle.cfg_grammar.specs.declared.production.Right.{Right}
 use Rattle.cfg_grammar.specs.declared.production.Right.TheVariants.{Empty, One, Two}
 use Rattle.op_system.specs.declared.system.OpSystem.{OpSystem}
 use Rattle.equal_sets.specs.Sets.{set_of, symbol_of, right_of}
-use Rattle.equal_sets.specs.Alike.{number_of, AreSame, HasRight, HasRights, HasRule, HasRules, IsEqual, IsLower, IsAlias}
+use Rattle.equal_sets.specs.Alike.{number_of, HasRights, HasRules, IsEqual, IsAlias}
 use Rattle.equal_sets.specs.Fit.{Joins, IsFit, is_done, IsOpen, IsSoFar, MayStand}
 use Rattle.equal_sets.specs.declared.rows.Rows.{Rows}
 

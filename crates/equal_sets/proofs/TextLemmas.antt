@@ -1,14 +1,12 @@
 -- Both systems have the same texts, and the same operations in cycles.
-use Rattle.std.proofs.Common.{◌≡◌, ◌∙◌, ◌↔◌, ℕ, List, [], ◌∷◌, ◌++◌, Contains, refl, sym, ap, subst}
+use Rattle.std.proofs.Common.{◌≡◌, ◌∙◌, ◌↔◌, ℕ, List, ◌++◌, Contains, refl, sym, ap, subst}
 use Rattle.std.specs.Prelude.{All}
 use Rattle.text_base.specs.declared.byte_range.ByteRange.{ByteRange}
-use Rattle.text_base.specs.declared.page_token.PageToken.{PageToken}
 use Rattle.text_base.specs.declared.numbers.Nt as nt
 use Rattle.cfg_grammar.specs.declared.symbol.Symbol.{Symbol}
 use Rattle.cfg_grammar.specs.declared.symbol.Symbol.TheVariants.{Range, Token, Nt}
 use Rattle.cfg_grammar.specs.declared.production.Right.{Right}
 use Rattle.cfg_grammar.specs.declared.production.Right.TheVariants.{Empty, One, Two}
-use Rattle.cfg_grammar.specs.declared.production.Production.{Production}
 use Rattle.op_system.specs.Rel.{Rel}
 use Rattle.op_system.specs.declared.op.Op.{Op}
 use Rattle.op_system.specs.declared.system.OpRule.{OpRule}
@@ -26,7 +24,7 @@ use Rattle.equal_sets.specs.Fit.{IsFit}
 use Rattle.equal_sets.specs.Written.{AreProductionsOf, AreRulesOf}
 use Rattle.equal_sets.proofs.ForwardLemmas as forward
 use Rattle.equal_sets.proofs.BackLemmas as back
-use Rattle.equal_sets.proofs.BackLemmas.{RightAt, RuleAt, right_back, rule_back}
+use Rattle.equal_sets.proofs.BackLemmas.{RightAt, right_back, rule_back}
 
 more_bytes : IsMonotone (λ bytes w. All bytes w)
 more_bytes bytes more w into all = λ k d lt. into _ (all k d lt)

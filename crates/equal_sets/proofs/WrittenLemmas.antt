@@ -1,6 +1,6 @@
 -- Productions and rules by the sets, one after another, and that they make a system.
-use Rattle.std.proofs.Common.{◌≡◌, ◌∙◌, ◌<◌, ◌≤◌, ◌+◌, ℕ, Bool, true, false, List, [], ◌∷◌, ◌++◌, length, Contains, inl, inr, refl, sym, ap, subst, arith}
-use Rattle.std.specs.Prelude.{◌⊎◌, ◌&&◌, nat_lt}
+use Rattle.std.proofs.Common.{◌≡◌, ◌+◌, ℕ, Bool, true, false, List, [], ◌∷◌, ◌++◌, Contains, inl, inr, refl, sym, subst, arith}
+use Rattle.std.specs.Prelude.{◌&&◌, nat_lt}
 use Rattle.std.specs.List.{list_all}
 use Rattle.std.proofs.lemmas.Bool.{ltb-true, lt-ltb}
 use Rattle.std.proofs.lemmas.List.{length_push}
@@ -17,7 +17,7 @@ use Rattle.op_system.specs.declared.system.OpRule.{OpRule}
 use Rattle.op_system.specs.declared.system.OpSystem.{OpSystem}
 use Rattle.op_system.specs.Rules.{rule_below, RulesAreBelow}
 use Rattle.op_bytes.proofs.ListLemmas.{none_in, first_in, later_in, first_so, second_so, all_at}
-use Rattle.op_bytes.proofs.EdgeLemmas.{left_below, rule_left_below, operand_below}
+use Rattle.op_bytes.proofs.EdgeLemmas.{rule_left_below, operand_below}
 use Rattle.equal_sets.specs.Sets.{set_of, symbol_of, right_of, production_of, rule_of}
 use Rattle.equal_sets.specs.Fit.{IsFit}
 use Rattle.equal_sets.specs.Written.{PutsProduction, AreProductionsOf, IsProductionOf, AreRulesOf, IsRuleOf}

@@ -1,5 +1,5 @@
 -- What is kept of the sets while they are found. No public clause cites this.
-use Rattle.std.specs.Prelude.{◌≡◌, ◌≤◌, ◌<◌, ◌⊎◌, ℕ, Bool, true, false, List, length, slice_index_or}
+use Rattle.std.specs.Prelude.{◌≡◌, ◌≤◌, ◌<◌, ℕ, Bool, true, false, List, length, slice_index_or}
 use Rattle.text_base.specs.declared.numbers.Nt as nt
 use Rattle.op_system.specs.declared.system.OpSystem.{OpSystem}
 use Rattle.equal_sets.specs.Sets.{set_of}

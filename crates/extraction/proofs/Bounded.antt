@@ -11,18 +11,16 @@ use Rattle.flow_code.specs.Points.{PlainPoint, PlainFlowFunction, PlainFlow, poi
 use Rattle.flow_code.specs.Lawful.{nexts}
 use Rattle.least_sets.specs.Forms.{Form}
 use Rattle.loose_sets.specs.Keys.{told_keys}
-use Rattle.least_sets.specs.Simulations.{Alike}
-use Rattle.set_tables.specs.TableWritten.{text_bytes, text_bytes_in}
 use Rattle.flow_graph.specs.Handed.{Handing, has_key}
 use Rattle.flow_graph.specs.Rows.{points_seen}
 use Rattle.ssa_form.specs.Versions.{asks_of, joined_by}
-use Rattle.set_listing.specs.declared.name.Half.TheVariants.{Text, Array}
-use Rattle.set_listing.specs.declared.name.Aspect.{Aspect}
-use Rattle.set_listing.specs.declared.name.Leaving.TheVariants.{Return, Exit}
-use Rattle.set_listing.specs.declared.name.SetName.{SetName}
-use Rattle.set_listing.specs.declared.name.SetName.TheVariants.{Value, Members, Shown, Result, Input, Output, Joined, Piece, FurtherPiece, FurtherPieces, Out}
-use Rattle.extraction.specs.Numbered.{IsByNumbers, forms_in, counted_of, AreNumbered}
-use Rattle.set_listing.specs.Names.{point_of}
+use Rattle.loose_sets.specs.declared.name.Half.TheVariants.{Text, Array}
+use Rattle.loose_sets.specs.declared.name.Aspect.{Aspect}
+use Rattle.loose_sets.specs.declared.name.Leaving.TheVariants.{Return, Exit}
+use Rattle.loose_sets.specs.declared.name.SetName.{SetName}
+use Rattle.loose_sets.specs.declared.name.SetName.TheVariants.{Value, Members, Shown, Result, Input, Output, Joined, Piece, FurtherPiece, FurtherPieces, Out}
+use Rattle.extraction.specs.Numbered.{bytes_of, forms_in, bytes_in, AreReached}
+use Rattle.loose_sets.specs.Table.{point_of}
 use Rattle.extraction.specs.Ends.{AreEnds}
 use Rattle.extraction.specs.Made.{IsMadeBy}
 use Rattle.extraction.specs.declared.tables.FlowTables.{FlowTables}
@@ -34,7 +32,7 @@ use Rattle.extraction.specs.Sizes.{point_parts, point_bytes, program_size, joins
 use Rattle.extraction.specs.Bounds.{IsBoundedWith, IsBounded}
 use Rattle.extraction.proofs.Sums.{sum_le, sum_add, sum_times, sum_ones, sum_none, covered, mul-add}
 use Rattle.extraction.proofs.Counts.{aspects_length, slots_length, points_length, called_length, edges_length, handings_length, handed_length}
-use Rattle.extraction.proofs.Fits.{bytes_of, joined_few}
+use Rattle.extraction.proofs.Fits.{joined_few}
 use Rattle.extraction.proofs.Universe.{Weighs, total, places, place_in, places_length, sum_places, joined_count, called_by, targets_in, aspects, all_versions, all_names_of, entry_slots}
 use Rattle.extraction.proofs.Named as named
 use Rattle.extraction.proofs.Joins.{joins_few, links_few}
@@ -73,23 +71,6 @@ within n x a v y r c k t most few version one fits =
 widen : (n s c v r x : ℕ) → n ≤ s * c + v + r → s ≤ x → n ≤ x * c + v + r
 widen n s c v r x most less = let a = mul-le-mul_right c less in omega (arith, most, a)
 
--- what is counted of rows
-bytes_counted : (rows : List (ℕ × Form ℕ)) → text_bytes_in rows ≡ counted_of (λ g. text_bytes g) rows
-unfolding text_bytes_in
-bytes_counted [] = refl
-bytes_counted (row ∷ rows) = ap (λ (n : ℕ). text_bytes row.1 + n) (bytes_counted rows) ∙ sym (sum_by-cons (λ (r : ℕ × Form ℕ). text_bytes r.1) row rows)
-
-bytes_alike : (names : List SetName) (f : Form SetName) (g : Form ℕ) → IsByNumbers names f g → text_bytes g ≡ text_bytes f
-bytes_alike names _ _ (Alike.text w) = refl
-bytes_alike names _ _ (Alike.same a b h) = refl
-bytes_alike names _ _ (Alike.join a c b d h k) = refl
-bytes_alike names _ _ (Alike.before w a b h) = refl
-bytes_alike names _ _ Alike.asked = refl
-bytes_alike names _ _ Alike.integer = refl
-bytes_alike names _ _ (Alike.apply op a b h) = refl
-bytes_alike names _ _ Alike.yes = refl
-bytes_alike names _ _ (Alike.where_yes w a b h) = refl
-
 module _ (t : FlowTables) (are : AreTables t) where
   abbrev flow : PlainFlow
   flow = flow_of t
@@ -125,18 +106,17 @@ module _ (t : FlowTables) (are : AreTables t) where
   IsNamed n = named.IsNamed flow t.versions are.exact are.joins n
 
   -- each name that is reached stands for a set that there is
-  name_is : (starts names : List SetName) (start count : ℕ) (rows : List (ℕ × Form ℕ)) → AreEnds flow starts → AreNumbered (IsAsked t) (lists_of t) starts names start count rows → (n : SetName) → Contains names n → IsNamed n
-  name_is starts names start count rows ends numbered n has =
-      elim (numbered.reached has.0 n (slice_get-get_or names has.0 n has.1 ∙ ap (λ (m : SetName). Some m) has.2)) [
+  name_is : (starts names : List SetName) → AreEnds flow starts → ((n : SetName) → Contains names n → IsAsked t n) → AreReached (lists_of t) starts names → (n : SetName) → Contains names n → IsNamed n
+  name_is starts names ends asked reached n has =
+      elim (reached has.0 n (slice_get-get_or names has.0 n has.1 ∙ ap (λ (m : SetName). Some m) has.2)) [
         | inl first ↦ (
             let e = ends.each n first in
             subst (λ (m : SetName). IsNamed m) (sym e.3) (named.entry_named flow t.versions are.exact are.joins e.0 e.1 e.2)
             )
         | inr b ↦ (
-            let asked = numbered.asked b.name (b.number, slice_get_within names b.number b.name b.at, get_or_from_slice_get names b.number b.name b.name b.at) in
-            let list = exactness.exact t are asked.set b.name asked.used asked.stands in
-            let r = list.each b.named.0 b.named.1 in
-            named.names_in flow t.versions are.exact are.joins r.0 b.named.0 r.2 (named.row_in flow t.versions are.exact are.joins asked.set r.0 r.1) n b.named.2
+            let may = asked b.name (b.number, slice_get_within names b.number b.name b.at, get_or_from_slice_get names b.number b.name b.name b.at) in
+            let row = (exactness.exact t are b.name b.named.0).0 b.named.1 in
+            named.row_named flow t.versions are.exact are.joins b.name b.named.0 row may.used n b.named.2
             )
       ]
 
@@ -323,14 +303,14 @@ module _ (t : FlowTables) (are : AreTables t) where
 
   module _ (request : List ℕ → Type 0) (nonterminals lines more_nonterminals more_productions : ℕ) (few_nonterminals : nonterminals ≤ 32 + more_nonterminals) (few_lines : lines ≤ 65 + more_productions)
       (s : OpSystem) (made : IsMadeBy request nonterminals lines flow (IsAsked t) (lists_of t) s) where
-    numbered : AreNumbered (IsAsked t) (lists_of t) made.starts made.names made.start made.count made.rows
-    numbered = made.numbered
+    named_is : (n : SetName) → Contains made.names n → IsNamed n
+    named_is = name_is made.starts made.names made.ends made.asked made.reached
 
     names_few : length made.names ≤ (2 * length points + slots + length asks) * length bs + 3 * (length points + slots + length asks) + (10 * length points + parts + 2 * length fs)
     names_few =
         let a = sum_ones made.names in
-        let b = covered (λ (n : SetName). 1) made.names (named.named flow t.versions are.exact are.joins) made.numbered.once
-        (λ n has. inl (named.named_has flow t.versions are.exact are.joins n (name_is made.starts made.names made.start made.count made.rows made.ends made.numbered n has))) in
+        let b = covered (λ (n : SetName). 1) made.names (named.named flow t.versions are.exact are.joins) made.once
+        (λ n has. inl (named.named_has flow t.versions are.exact are.joins n (named_is n has))) in
         let c = names_all in
         let d = times_right (length points + slots + length asks + length points) (2 * length points + slots + length asks) (length bs) (omega arith) in
         omega (arith, a, b, c, d)
@@ -339,22 +319,20 @@ module _ (t : FlowTables) (are : AreTables t) where
         times_right a b k h = mul-le-mul_right k h
 
     forms_few : forms_in (lists_of t) made.names ≤ sum_by forms_of over
-    forms_few = covered forms_of made.names over made.numbered.once
-        (λ n has. elim (name_lists n (name_is made.starts made.names made.start made.count made.rows made.ends made.numbered n has)) [
+    forms_few = covered forms_of made.names over made.once
+        (λ n has. elim (name_lists n (named_is n has)) [
           | inl there ↦ inl there
           | inr none ↦ inr (ap (λ (forms : List (Form SetName)). length forms) none)
         ])
 
-    bytes_few : text_bytes_in made.rows ≤ sum_by bytes_in_forms over
+    bytes_few : bytes_in (lists_of t) made.names ≤ sum_by bytes_in_forms over
     bytes_few =
-        let a = bytes_counted made.rows in
-        let b = made.numbered.counts (λ f. text_bytes f) (λ g. text_bytes g) (bytes_alike made.names) (λ k. refl) in
-        let c = covered bytes_in_forms made.names over made.numbered.once
-        (λ n has. elim (name_lists n (name_is made.starts made.names made.start made.count made.rows made.ends made.numbered n has)) [
+        let c = covered bytes_in_forms made.names over made.once
+        (λ n has. elim (name_lists n (named_is n has)) [
           | inl there ↦ inl there
           | inr none ↦ inr (ap bytes_of none)
         ]) in
-        omega (arith, a, b, c)
+        omega (arith, c)
 
     abbrev size : ℕ
     size = program_size flow + joins_count t.versions + 1
@@ -367,20 +345,19 @@ module _ (t : FlowTables) (are : AreTables t) where
         let sized = size_is in
         let a = within (length made.names + 33) (2 * length points + slots + length asks) (length bs) 3 (length points + slots + length asks) (10 * length points + parts + 2 * length fs + 33) 33 (keys + 1) size
         (omega (arith, names_few)) few_aspects (omega arith) (omega arith) (omega (arith, sized)) in
-        let b = within (text_bytes_in made.rows) (length points + parts + bytes) (length bs) 5 (length points + slots + length asks) (5 * length points + 2 * bytes) 15 (keys + 1) size
+        let b = within (bytes_in (lists_of t) made.names) (length points + parts + bytes) (length bs) 5 (length points + slots + length asks) (5 * length points + 2 * bytes) 15 (keys + 1) size
         (omega (arith, bytes_few, bytes_all)) few_aspects (omega arith) (omega arith) (omega (arith, sized)) in
-        let c = made.written.numbers in
-        let d = made.numbered.count_is in
-        omega (arith, a, b, c, d, few_nonterminals)
+        let c = made.numbers in
+        omega (arith, a, b, c, few_nonterminals)
 
     productions_few : length s.grammar.productions.items + length s.ops.items ≤ 128 * ((keys + 1) * linked) + more_productions
     productions_few =
         let sized = size_is in
-        let a = within (length made.rows + 65) (5 * length points + 4 * parts + slots + links_count t.versions) (length bs) (2 * (keys + 1) + 2) (length points + slots + length asks) (13 * length points + parts + 67) 67 (keys + 1) linked
-        (let e = made.numbered.size in let f = made.ends.few in omega (arith, forms_few, forms_all, e, f)) few_aspects (omega arith) (omega arith) (omega (arith, sized)) in
-        let b = within (text_bytes_in made.rows) (length points + parts + bytes) (length bs) 5 (length points + slots + length asks) (5 * length points + 2 * bytes) 15 (keys + 1) linked
+        let a = within (forms_in (lists_of t) made.names + length made.starts + 65) (5 * length points + 4 * parts + slots + links_count t.versions) (length bs) (2 * (keys + 1) + 2) (length points + slots + length asks) (13 * length points + parts + 67) 67 (keys + 1) linked
+        (let f = made.ends.few in omega (arith, forms_few, forms_all, f)) few_aspects (omega arith) (omega arith) (omega (arith, sized)) in
+        let b = within (bytes_in (lists_of t) made.names) (length points + parts + bytes) (length bs) 5 (length points + slots + length asks) (5 * length points + 2 * bytes) 15 (keys + 1) linked
         (omega (arith, bytes_few, bytes_all)) few_aspects (omega arith) (omega arith) (omega (arith, sized)) in
-        let c = made.written.sizes in
+        let c = made.sizes in
         omega (arith, a, b, c, few_lines)
 
     pub bounded : IsBoundedWith more_nonterminals more_productions flow s

@@ -4,10 +4,10 @@ use Rattle.flow_code.specs.Points.{PlainFlowFunction, PlainFlow, function_at}
 use Rattle.flow_code.specs.View.{plain_flow, plain_flow_function}
 use Rattle.flow_code.specs.declared.program.FlowFunction.{FlowFunction}
 use Rattle.flow_code.specs.declared.program.FlowProgram.{FlowProgram}
-use Rattle.set_listing.specs.declared.name.Leaving.{Leaving}
-use Rattle.set_listing.specs.declared.name.Leaving.TheVariants.{Return, Exit}
-use Rattle.set_listing.specs.declared.name.SetName.{SetName}
-use Rattle.set_listing.specs.declared.name.SetName.TheVariants.{Out}
+use Rattle.loose_sets.specs.declared.name.Leaving.{Leaving}
+use Rattle.loose_sets.specs.declared.name.Leaving.TheVariants.{Return, Exit}
+use Rattle.loose_sets.specs.declared.name.SetName.{SetName}
+use Rattle.loose_sets.specs.declared.name.SetName.TheVariants.{Out}
 use Rattle.extraction.specs.Ends.{AreEnds}
 
 none_of : {X : Type 0} (x : X) → Contains [] x → ⊥

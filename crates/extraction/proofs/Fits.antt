@@ -11,30 +11,27 @@ use Rattle.flow_code.specs.Points.{PlainKeyRef, int_ref, text_ref, read_ref, Pla
 use Rattle.flow_code.specs.Lawful.{nexts}
 use Rattle.least_sets.specs.Forms.{Form, text_form, same_form, join_form, integer_form}
 use Rattle.plain_values.specs.Text.{text_of}
-use Rattle.set_tables.specs.TableWritten.{text_bytes}
-use Rattle.set_listing.specs.declared.name.Half.{Half}
-use Rattle.set_listing.specs.declared.name.Half.TheVariants.{Text, Array}
-use Rattle.set_listing.specs.declared.name.Aspect.{Aspect}
-use Rattle.set_listing.specs.declared.name.Aspect.TheVariants.{Own, Member, Others, Keys}
-use Rattle.set_listing.specs.declared.name.SetVersion.{SetVersion}
-use Rattle.set_listing.specs.declared.name.Leaving.{Leaving}
-use Rattle.set_listing.specs.declared.name.Leaving.TheVariants.{Return, Exit}
-use Rattle.set_listing.specs.declared.name.SetName.{SetName}
-use Rattle.set_listing.specs.declared.name.SetName.TheVariants.{Value, Output, Joined, Out}
-use Rattle.set_listing.specs.Uses.{At, used, all_used, where_so, may_be_at}
-use Rattle.set_listing.specs.Arrays.{Forms, array_own, null_own, member_forms, key_forms, item_under, item_elsewhere, item_keys, array_forms, is_exactly_at, put_under, put_elsewhere, deep_under, deep_elsewhere, put_keys, put_forms}
-use Rattle.set_listing.specs.Sources.{is_own_text, texts_alone, copies, pieces, request_own, super_forms, output_own, explode_forms, source_forms}
-use Rattle.set_listing.specs.Points.{value_forms, walk_forms, source_at, joined_slots, replaced_by, operation_of, input_used, input_forms, output_forms, joined_from_place, joined_forms, piece_forms, further_forms, any_further_forms}
-use Rattle.set_listing.specs.Printed.{on_return, on_exit, quit_form, call_forms, out_forms}
-use Rattle.set_listing.specs.Versions.{told_members, members_forms, shown_forms, link_form, link_forms}
-use Rattle.set_listing.specs.Functions.{used_pair, used_pairs, entry_forms}
+use Rattle.system_writing.specs.Forms.{text_bytes}
+use Rattle.extraction.specs.Numbered.{bytes_of}
+use Rattle.loose_sets.specs.declared.name.Half.{Half}
+use Rattle.loose_sets.specs.declared.name.Half.TheVariants.{Text, Array}
+use Rattle.loose_sets.specs.declared.name.Aspect.{Aspect}
+use Rattle.loose_sets.specs.declared.name.Aspect.TheVariants.{Own, Member, Others, Keys}
+use Rattle.loose_sets.specs.declared.name.SetVersion.{SetVersion}
+use Rattle.loose_sets.specs.declared.name.Leaving.{Leaving}
+use Rattle.loose_sets.specs.declared.name.Leaving.TheVariants.{Return, Exit}
+use Rattle.loose_sets.specs.declared.name.SetName.{SetName}
+use Rattle.loose_sets.specs.declared.name.SetName.TheVariants.{Value, Output, Joined, Out}
+use Rattle.loose_sets.specs.Uses.{At, used, all_used, where_so, may_be_at}
+use Rattle.loose_sets.specs.Arrays.{Forms, array_own, null_own, member_forms, key_forms, item_under, item_elsewhere, item_keys, array_forms, is_exactly_at, put_under, put_elsewhere, deep_under, deep_elsewhere, put_keys, put_forms}
+use Rattle.loose_sets.specs.Sources.{is_own_text, texts_alone, copies, pieces, request_own, super_forms, output_own, explode_forms, source_forms}
+use Rattle.loose_sets.specs.Points.{value_forms, walk_forms, source_at, joined_slots, replaced_by, operation_of, input_used, input_forms, output_forms, joined_from_place, joined_forms, piece_forms, further_forms, any_further_forms}
+use Rattle.loose_sets.specs.Printed.{on_return, on_exit, quit_form, call_forms, out_forms}
+use Rattle.loose_sets.specs.Members.{told_members, members_forms, shown_forms, link_form, link_forms}
+use Rattle.loose_sets.specs.Functions.{used_pair, used_pairs, entry_forms}
 use Rattle.extraction.specs.Sizes.{key_bytes, item_bytes, source_bytes, point_bytes, source_parts, point_parts}
 use Rattle.extraction.proofs.Sums.{sum_none}
 use Rattle.extraction.proofs.Universe.{joined_count}
-
--- how many bytes stand in forms
-abbrev pub bytes_of : Forms → ℕ
-bytes_of forms = sum_by (λ f. text_bytes f) forms
 
 -- at most so many forms, with so many bytes
 abbrev pub Fits : ℕ → ℕ → Forms → Type 0

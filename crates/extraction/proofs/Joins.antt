@@ -11,7 +11,7 @@ use Rattle.flow_code.specs.Points.{PlainPoint, PlainFlowFunction, PlainFlow, poi
 use Rattle.flow_code.specs.Lawful.{reads, nexts}
 use Rattle.ssa_form.specs.declared.versions.Versions.{Versions}
 use Rattle.ssa_form.specs.Versions.{asks_of, joined_by, arrivals_at, AreOnce, AreJoins}
-use Rattle.set_listing.proofs.ListLemmas.{map_has, from_place}
+use Rattle.loose_sets.proofs.Lists.{map_has, from_place}
 use Rattle.extraction.specs.Sizes.{points_count, reads_count, joins_count, links_count}
 use Rattle.extraction.proofs.Sums.{sum_flat, sum_map, sum_le, sum_same, sum_add, sum_none, sum_ones, sum_most, sum_times_right, covered}
 use Rattle.extraction.proofs.Universe.{places, places_length, place_in}

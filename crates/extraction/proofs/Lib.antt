@@ -1,13 +1,12 @@
-mod Readings
+mod GivenLemmas
 mod EndLemmas
-mod NumberingLemmas
 mod Pages
 mod Operations
 mod Rules
 pub mod ParamLemmas
 mod ListedEntries
 pub mod Exact
-mod Closed
+pub mod Closed
 mod ListingLemmas
 mod Sums
 mod Universe
@@ -19,8 +18,7 @@ mod Joins
 pub mod Bounded
 mod Examples
 mod PlaceLemmas
-mod FormLemmas
+mod NumberLemmas
 mod RowLemmas
-mod TableLemmas
-pub mod NamingLemmas
-pub mod Same
+mod TableLaws
+mod Extracted

@@ -9,10 +9,12 @@ use Rattle.std.proofs.lemmas.Map.Views.{exact_unsigned_eq, Contains-from_any}
 use Rattle.text_base.specs.Exactness.{exact_pair}
 use Rattle.flow_code.specs.Points.{PlainPoint, PlainFlowFunction, PlainFlow, points_in, function_at}
 use Rattle.flow_code.specs.Lawful.{IsOwnSlot}
-use Rattle.set_listing.specs.Functions.{IsReturned, IsNullSlot, ArePairs}
+use Rattle.loose_sets.specs.Functions.{IsReturned, IsNullSlot, ArePairs}
 use Rattle.flow_graph.specs.Returned.{returned_pairs}
-use Rattle.point_listing.proofs.Returned.{none_in, returned_law}
-use Rattle.extraction.specs.Params.{AreParams, owns, is_owned, same_pair, is_no_param, is_null}
+use Rattle.loose_sets.proofs.Returned.{none_in, returned_law}
+use Rattle.loose_sets.specs.Functions.{owns, is_owned}
+use Rattle.loose_sets.proofs.Nulls.{both_hold, owned, own}
+use Rattle.extraction.specs.Params.{AreParams, same_pair, is_no_param, is_null}
 use Rattle.extraction.specs.Tables.{pairs_or_none}
 
 -- what is found for a function is what it returns
@@ -26,25 +28,6 @@ returned_exact flow points all are is n =
     let row : slice_get all n ≡ option_map (returned_pairs (points_in flow.functions_of)) (function_at flow n) =
     ap (λ (xs : List (List (ℕ × ℕ))). slice_get xs n) (is ∙ ap (λ (ps : List PlainPoint). map (returned_pairs ps) flow.functions_of) are) ∙ slice_get-map (returned_pairs (points_in flow.functions_of)) flow.functions_of n in
     subst (λ (o : Option (List (ℕ × ℕ))). ArePairs (IsReturned flow n) (pairs_or_none o)) (sym row) (returned_by flow n (function_at flow n) refl)
-
--- slots that are null
-halves : (a b : Bool) → (a && b) ≡ true → (a ≡ true) × (b ≡ true)
-halves true b e = (refl, e)
-halves false b e = absurd (cc)
-
-owned : (g : PlainFlowFunction) (y : ℕ) → owns g y ≡ true → IsOwnSlot g y
-owned g y e =
-    let parts = halves (nat_le g.first_slot_of y) (nat_lt (y - g.first_slot_of) g.slots_of) e in
-    let low : g.first_slot_of ≤ y = leb-true g.first_slot_of y parts.0 in
-    let high : y - g.first_slot_of < g.slots_of = ltb-true (y - g.first_slot_of) g.slots_of parts.1 in
-    record { least = low; most = omega (arith, low, high) }
-
-own : (g : PlainFlowFunction) (y : ℕ) → IsOwnSlot g y → owns g y ≡ true
-own g y inside =
-    let low : g.first_slot_of ≤ y = inside.least in
-    let most : y < g.first_slot_of + g.slots_of = inside.most in
-    let high : y - g.first_slot_of < g.slots_of = omega (arith, low, most) in
-    ap (λ (b : Bool). b && nat_lt (y - g.first_slot_of) g.slots_of) (le-leb g.first_slot_of y low) ∙ lt-ltb (y - g.first_slot_of) g.slots_of high
 
 -- a pair is found where it stands
 itself : (p : ℕ × ℕ) → same_pair p p ≡ true
@@ -73,7 +56,7 @@ module _ (flow : PlainFlow) (keys : List (ℕ × ℕ)) (are : AreParams flow.fun
   null_by : (o : Option PlainFlowFunction) → function_at flow n ≡ o → (is_owned o y && is_no_param keys n y) ≡ true → IsNullSlot flow n y
   null_by None is e = absurd (cc)
   null_by (Some g) is e =
-      let parts = halves (owns g y) (is_no_param keys n y) e in
+      let parts = both_hold (owns g y) (is_no_param keys n y) e in
       record { function = g; is = is; inside = owned g y parts.0; no_parameter = λ c. no_key parts.1 ((are.each n y).1 (record { function = g; is = is; it = c })) }
 
   pub null_slot : is_null flow.functions_of keys n y ≡ true → IsNullSlot flow n y

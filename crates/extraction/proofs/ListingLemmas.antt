@@ -3,38 +3,31 @@ use Rattle.std.proofs.Common.{◌≡◌, ℕ, List, subst, Contains}
 use Rattle.flow_code.specs.View.{plain_flow}
 use Rattle.flow_code.specs.declared.program.FlowProgram.{FlowProgram}
 use Rattle.least_sets.specs.Forms.{Form}
-use Rattle.loose_sets.specs.Names as sets
 use Rattle.loose_sets.specs.Versions.{linked_in}
 use Rattle.ssa_form.specs.Versions.{joins_of}
-use Rattle.loose_sets.specs.RowNames.{unversioned}
-use Rattle.set_listing.specs.Used.{IsUsed}
-use Rattle.set_listing.specs.declared.name.Leaving.{Leaving}
-use Rattle.set_listing.specs.declared.name.Leaving.TheVariants as leaving
-use Rattle.set_listing.specs.declared.name.SetName.{SetName}
-use Rattle.set_listing.specs.declared.name.SetName.TheVariants.{Out}
-use Rattle.set_listing.specs.Stands.{IsLeaving, StandsFor}
-use Rattle.set_listing.specs.Uses.{seen_at}
+use Rattle.loose_sets.specs.Used.{IsUsed}
+use Rattle.loose_sets.specs.declared.name.Leaving.{Leaving}
+use Rattle.loose_sets.specs.declared.name.SetName.{SetName}
+use Rattle.loose_sets.specs.declared.name.SetName.TheVariants.{Out}
 use Rattle.extraction.specs.Asked.{AreAsked}
 use Rattle.extraction.specs.Ends.{IsExactLister}
 use Rattle.extraction.specs.declared.tables.FlowTables.{FlowTables}
 use Rattle.extraction.specs.Tables.{flow_of, at_in, lists_of, AreTables}
 use Rattle.extraction.specs.FlowAsked.{IsAsked}
 use Rattle.extraction.proofs.Exact.{exact}
-use Rattle.extraction.proofs.Closed.{closed, used_too}
+use Rattle.extraction.proofs.Closed.{closed}
 
 -- what is printed from a point on may be asked for
 out_asked : (t : FlowTables) → AreTables t → (p : ℕ) (l : Leaving) → IsAsked t (Out p l)
 unfolding IsUsed
-out_asked t are p leaving.Return = record { tables = are; set = unversioned (sets.out_of p sets.by_return); stands = StandsFor.out p sets.by_return leaving.Return IsLeaving.returns; used = tt }
-out_asked t are p leaving.Exit = record { tables = are; set = unversioned (sets.out_of p sets.by_exit); stands = StandsFor.out p sets.by_exit leaving.Exit IsLeaving.exits; used = tt }
+out_asked t are p l = record { tables = are; used = tt }
 
 lister : (t : FlowTables) → AreTables t → IsExactLister (flow_of t) (IsAsked t) (lists_of t)
 lister t are = record {
   versions = t.versions;
   exact = are.exact;
   lister = record {
-    stands = λ n a. (a.set, a.stands);
-    exact = λ m n a s. exact t are m n (used_too (flow_of t) (linked_in (joins_of t.versions)) (seen_at (at_in t)) m a.set n s a.stands a.used) s;
+    exact = λ n a f. exact t are n f;
     start = λ main l is. out_asked t are main.entry_of l;
   };
 }
@@ -46,5 +39,4 @@ is_lister flow t same are = subst (λ (f : FlowProgram). IsExactLister (plain_fl
 pub all_asked : (t : FlowTables) (n : SetName) (forms : List (Form SetName)) → IsAsked t n → forms ≡ lists_of t n → AreAsked (IsAsked t) forms
 all_asked t n forms a is f k has named =
     let there : Contains (lists_of t n) f = subst (λ (fs : List (Form SetName)). Contains fs f) is has in
-    let r = closed (flow_of t) (linked_in (joins_of t.versions)) (seen_at (at_in t)) a.set (lists_of t n) (exact t a.tables a.set n a.used a.stands) f k there named in
-    record { tables = a.tables; set = r.0; stands = r.1; used = r.2 }
+    record { tables = a.tables; used = closed (flow_of t) (at_in t) (linked_in (joins_of t.versions)) n f ((exact t a.tables n f).0 there) a.used k named }

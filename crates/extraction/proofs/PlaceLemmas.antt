@@ -3,15 +3,6 @@ use Rattle.std.proofs.Common.{◌≡◌, ◌⊎◌, inl, inr, ℕ, zero, suc, Li
 use Rattle.std.proofs.lemmas.Option.{slice_get_within, get_or_from_slice_get, slice_get-get_or}
 use Rattle.numbered_sets.specs.Numbers.{Keeps}
 
-pub contains_at : {X : Type 0} (xs : List X) (n : ℕ) (x : X) → slice_get xs n ≡ Some x → Contains xs x
-contains_at xs n x h = (n, slice_get_within xs n x h, get_or_from_slice_get xs n x x h)
-
-pub at_contains : {X : Type 0} (xs : List X) (x : X) → Contains xs x → (n : ℕ) × (slice_get xs n ≡ Some x)
-at_contains {X} xs x c = (c.0, subst (λ (y : X). slice_get xs c.0 ≡ Some y) c.2 (slice_get-get_or xs c.0 x c.1))
-
-pub contains_kept : {X : Type 0} (old new : List X) (x : X) → Keeps old new → Contains old x → Contains new x
-contains_kept old new x keeps c = let a = at_contains old x c in contains_at new a.0 x (keeps a.0 x a.1)
-
 pub keeps_itself : {X : Type 0} (xs : List X) → Keeps xs xs
 keeps_itself xs = λ n x h. h
 

@@ -19,18 +19,18 @@ use Rattle.flow_graph.specs.Tables.{pairs_seen}
 use Rattle.flow_graph.specs.Rows.{points_seen}
 use Rattle.point_listing.specs.Views.{keys_seen}
 use Rattle.point_listing.specs.Links.{links_seen}
-use Rattle.point_listing.specs.Reading.{version_back}
-use Rattle.set_listing.specs.declared.name.Half.{Half}
-use Rattle.set_listing.specs.declared.name.Aspect.{Aspect}
-use Rattle.set_listing.specs.declared.name.SetVersion.{SetVersion}
-use Rattle.set_listing.specs.declared.name.SetVersion.TheVariants.{Point}
-use Rattle.set_listing.specs.declared.name.Leaving.{Leaving}
-use Rattle.set_listing.specs.declared.name.SetName.{SetName}
-use Rattle.set_listing.specs.declared.name.SetName.TheVariants.{Value, Members, Shown, Result, Input, Output, Joined, Piece, FurtherPiece, FurtherPieces, Out}
-use Rattle.set_listing.specs.Arrays.{Forms}
-use Rattle.set_listing.specs.Points.{source_at, joined_slots, imploded_slots, operation_of}
-use Rattle.set_listing.specs.Functions.{used_pairs}
-use Rattle.set_listing.specs.Names.{point_of, forms_from, forms_there}
+use Rattle.loose_sets.specs.Uses.{version_back}
+use Rattle.loose_sets.specs.declared.name.Half.{Half}
+use Rattle.loose_sets.specs.declared.name.Aspect.{Aspect}
+use Rattle.loose_sets.specs.declared.name.SetVersion.{SetVersion}
+use Rattle.loose_sets.specs.declared.name.SetVersion.TheVariants.{Point}
+use Rattle.loose_sets.specs.declared.name.Leaving.{Leaving}
+use Rattle.loose_sets.specs.declared.name.SetName.{SetName}
+use Rattle.loose_sets.specs.declared.name.SetName.TheVariants.{Value, Members, Shown, Result, Input, Output, Joined, Piece, FurtherPiece, FurtherPieces, Out}
+use Rattle.loose_sets.specs.Arrays.{Forms}
+use Rattle.loose_sets.specs.Points.{source_at, joined_slots, imploded_slots, operation_of}
+use Rattle.loose_sets.specs.Functions.{used_pairs}
+use Rattle.loose_sets.specs.Table.{point_of, forms_from, forms_there}
 use Rattle.extraction.specs.declared.tables.FlowTables.{FlowTables}
 use Rattle.extraction.specs.Params.{is_null}
 use Rattle.extraction.specs.Tables.{flow_of, functions_of, AreTables, at_in, pairs_or_none, handed_in, further_forms, lists_from, lists_of}

@@ -6,15 +6,15 @@ use Rattle.std.proofs.lemmas.List.Sums.{sum_by-cons, sum_by-append}
 use Rattle.string_functions.proofs.Members.{Contains-head, Contains-later}
 use Rattle.flow_code.specs.Points.{PlainPoint, call_point, PlainFlowFunction}
 use Rattle.flow_code.specs.Lawful.{nexts}
-use Rattle.set_listing.specs.declared.name.Half.TheVariants.{Text, Array}
-use Rattle.set_listing.specs.declared.name.Aspect.{Aspect}
-use Rattle.set_listing.specs.declared.name.Aspect.TheVariants.{Own, Member, Others, Keys}
-use Rattle.set_listing.specs.declared.name.SetVersion.{SetVersion}
-use Rattle.set_listing.specs.declared.name.SetVersion.TheVariants.{Point, Entry, Join}
-use Rattle.set_listing.specs.declared.name.Leaving.TheVariants.{Return, Exit}
-use Rattle.set_listing.specs.declared.name.SetName.{SetName}
-use Rattle.set_listing.specs.declared.name.SetName.TheVariants.{Value, Members, Shown, Result, Input, Output, Joined, Piece, FurtherPiece, FurtherPieces, Out}
-use Rattle.set_listing.specs.Points.{source_at, joined_slots}
+use Rattle.loose_sets.specs.declared.name.Half.TheVariants.{Text, Array}
+use Rattle.loose_sets.specs.declared.name.Aspect.{Aspect}
+use Rattle.loose_sets.specs.declared.name.Aspect.TheVariants.{Own, Member, Others, Keys}
+use Rattle.loose_sets.specs.declared.name.SetVersion.{SetVersion}
+use Rattle.loose_sets.specs.declared.name.SetVersion.TheVariants.{Point, Entry, Join}
+use Rattle.loose_sets.specs.declared.name.Leaving.TheVariants.{Return, Exit}
+use Rattle.loose_sets.specs.declared.name.SetName.{SetName}
+use Rattle.loose_sets.specs.declared.name.SetName.TheVariants.{Value, Members, Shown, Result, Input, Output, Joined, Piece, FurtherPiece, FurtherPieces, Out}
+use Rattle.loose_sets.specs.Points.{source_at, joined_slots}
 use Rattle.extraction.proofs.Sums.{sum_flat, sum_map, sum_le, sum_same, sum_add, sum_times, sum_times_right, sum_ones, sum_most, mul-add, add-mul}
 
 -- the places of a list, from a number on

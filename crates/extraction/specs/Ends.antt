@@ -5,10 +5,9 @@ use Rattle.least_sets.specs.Forms.{Form}
 use Rattle.loose_sets.specs.Versions.{linked_in}
 use Rattle.ssa_form.specs.declared.versions.Versions.{Versions}
 use Rattle.ssa_form.specs.Versions.{joins_of, IsExact}
-use Rattle.set_listing.specs.declared.name.Leaving.{Leaving}
-use Rattle.set_listing.specs.declared.name.SetName.{SetName}
-use Rattle.set_listing.specs.declared.name.SetName.TheVariants.{Out}
-use Rattle.set_listing.specs.Uses.{seen_at}
+use Rattle.loose_sets.specs.declared.name.Leaving.{Leaving}
+use Rattle.loose_sets.specs.declared.name.SetName.{SetName}
+use Rattle.loose_sets.specs.declared.name.SetName.TheVariants.{Out}
 use Rattle.point_listing.specs.Reading.{read_at}
 use Rattle.extraction.specs.Listers.{IsFlowLister}
 
@@ -23,4 +22,4 @@ pub record AreEnds (flow : PlainFlow) (names : List SetName) : Type 0 where
 pub record IsExactLister (flow : PlainFlow) (asks : SetName → Type 0) (lists : SetName → List (Form SetName)) : Type 0 where
   pub versions : Versions
   pub exact : IsExact flow versions
-  pub lister : IsFlowLister flow (linked_in (joins_of versions)) (seen_at (read_at versions)) asks lists
+  pub lister : IsFlowLister flow (linked_in (joins_of versions)) (read_at versions) asks lists

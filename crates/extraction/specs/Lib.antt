@@ -9,6 +9,7 @@ pub mod Sizes
 pub mod Bounds
 pub mod Numbered
 pub mod Steps
+pub mod Listed
 pub mod Asked
+pub mod Texts
 pub mod Listers
-pub mod NumberedRows

@@ -1,7 +1,8 @@
 -- The parameters of functions, and the slots that are null where a function is entered.
-use Rattle.std.specs.Prelude.{◌≡◌, ◌⊎◌, ◌↔◌, ◌-◌, ◌&&◌, not, ℕ, Bool, false, List, Option, Some, None, Contains, slice_get, nat_eq, nat_le, nat_lt}
+use Rattle.std.specs.Prelude.{◌≡◌, ◌⊎◌, ◌↔◌, ◌&&◌, not, ℕ, Bool, List, Some, Contains, slice_get, nat_eq}
 use Rattle.std.specs.List.{list_any}
 use Rattle.flow_code.specs.Points.{PlainFlowFunction}
+use Rattle.loose_sets.specs.Functions.{is_owned}
 
 -- the slot is a parameter of the function of a number
 pub record IsParam (fs : List PlainFlowFunction) (n y : ℕ) : Type 0 where
@@ -16,15 +17,6 @@ pub record AreParams (fs : List PlainFlowFunction) (keys : List (ℕ × ℕ)) : 
 -- exactly these parameters of one function were added
 pub record Puts (old new : List (ℕ × ℕ)) (m : ℕ) (ys : List ℕ) : Type 0 where
   pub each : (n y : ℕ) → Contains new (n, y) ↔ (Contains old (n, y) ⊎ ((n ≡ m) × Contains ys y))
-
--- the slot is one of the function's own
-abbrev pub owns : PlainFlowFunction → ℕ → Bool
-owns g y = nat_le g.first_slot_of y && nat_lt (y - g.first_slot_of) g.slots_of
-
--- whether the slot is one of the function's own, if there is the function
-abbrev pub is_owned : Option PlainFlowFunction → ℕ → Bool
-is_owned None y = false
-is_owned (Some g) y = owns g y
 
 -- whether two pairs are the same
 abbrev pub same_pair : (ℕ × ℕ) → (ℕ × ℕ) → Bool

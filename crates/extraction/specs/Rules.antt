@@ -10,15 +10,15 @@ use Rattle.op_system.specs.declared.system.OpSystem.{OpSystem}
 use Rattle.flow_code.specs.Points.{PlainFlow}
 use Rattle.least_sets.specs.Forms.{apply_form}
 use Rattle.least_sets.specs.Sets.{IsCircular}
-use Rattle.loose_sets.specs.Names.{Name}
+use Rattle.loose_sets.specs.declared.name.SetName.{SetName}
 use Rattle.loose_sets.specs.Table.{Row}
 use Rattle.loose_sets.specs.Loose.{IsIn}
 use Rattle.op_bytes.specs.Cycles.{IsInCycle}
-use Rattle.set_tables.specs.Sets.{SystemText}
+use Rattle.extraction.specs.Texts.{SystemText}
 
 -- a nonterminal of the system has exactly the texts of a loose set, by this reading
-abbrev pub HasTexts : (Op → List ℕ → List ℕ → Type 0) → (List ℕ → Type 0) → ((ℕ → Type 0) → List ℕ → Type 0) → PlainFlow → OpSystem → Name
-    → nt.Nt → Type 0
+abbrev pub HasTexts : (Op → List ℕ → List ℕ → Type 0) → (List ℕ → Type 0) → ((ℕ → Type 0) → List ℕ → Type 0) → PlainFlow → OpSystem
+    → SetName → nt.Nt → Type 0
 HasTexts outputs request circular flow s name a = (w : List ℕ)
     → SystemText outputs circular s.grammar.productions.items s.ops.items (Nt a) w ↔ IsIn outputs request circular flow name w
 
@@ -26,8 +26,8 @@ HasTexts outputs request circular flow s name a = (w : List ℕ)
 -- operation depends on itself
 pub record IsLooseRule (relates : Op → List ℕ → List ℕ → Type 0) (request : List ℕ → Type 0)
     (circular : (ℕ → Type 0) → List ℕ → Type 0) (flow : PlainFlow) (s : OpSystem) (rule : OpRule) : Type 0 where
-  pub output : Name
-  pub input : Name
+  pub output : SetName
+  pub input : SetName
   pub row : Row flow output (apply_form rule.op input)
   pub outputs : HasTexts relates request circular flow s output rule.left
   pub inputs : HasTexts relates request circular flow s input rule.operand

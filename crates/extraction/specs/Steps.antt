@@ -1,50 +1,79 @@
--- What each step of numbering adds. No public clause cites it.
-use Rattle.std.specs.Prelude.{◌≡◌, ◌+◌, ◌⊎◌, ℕ, List, Contains, length}
-use Rattle.least_sets.specs.Forms.{Form, same_form}
-use Rattle.numbered_sets.specs.Numbers.{Keeps, AddsOnly}
-use Rattle.set_listing.specs.declared.name.SetName.{SetName}
-use Rattle.extraction.specs.Asked.{all_names}
-use Rattle.std.specs.List.{sum_by}
-use Rattle.extraction.specs.Numbered.{IsAt, IsByNumbers, NamedIn, CountAlike, counted_of}
+-- What each step of the worklist adds. No public clause cites it.
+use Rattle.std.specs.Prelude.{◌≡◌, ◌≤◌, ◌+◌, ◌⊎◌, ℕ, List, ◌∷◌, [], ◌++◌, Contains, length}
+use Rattle.numbered_sets.specs.Numbers.{Keeps, AreDifferent}
+use Rattle.least_sets.specs.Forms.{Form}
+use Rattle.least_sets.specs.Simulations.{Alike}
+use Rattle.loose_sets.specs.declared.name.SetName.{SetName}
+use Rattle.given_texts.specs.Closed.{Closed}
+use Rattle.system_writing.specs.Forms.{all_names, text_bytes}
+use Rattle.system_writing.specs.Drafts.{IsAt, IsDraft}
+use Rattle.system_writing.specs.Sizes.{numbers_due, lines_due}
+use Rattle.extraction.specs.declared.work.Work.{Work}
+use Rattle.extraction.specs.Numbered.{NamedIn, rows_of_name, bytes_of}
 
--- the name has the number, and nothing else was added
-pub record IsNameNumbered (old new : List SetName) (n : SetName) (k : ℕ) : Type 0 where
-  pub keeps : Keeps old new
-  pub adds : AddsOnly old new n
-  pub at : IsAt new n k
+-- each name has a nonterminal
+abbrev pub IsPaired : Work → Type 0
+IsPaired work = length work.numbers.items ≡ length work.names.keys
 
--- each name in the form has its number, and nothing else was added
-pub record IsFormNumbered (old new : List SetName) (f : Form SetName) (g : Form ℕ) : Type 0 where
-  pub keeps : Keeps old new
-  pub adds : (n : SetName) → Contains new n → Contains old n ⊎ Contains (all_names f) n
-  pub alike : IsByNumbers new f g
+-- the nonterminal of a name
+abbrev pub HasNumber : Work → SetName → ℕ → Type 0
+HasNumber work n k = IsAt work.names.keys work.numbers.items n k
+
+-- the draft stands for these rows
+abbrev pub Stands : List (SetName × Form SetName) → List SetName → Closed → Work → Type 0
+Stands rows starts closed work = IsDraft rows starts work.names.keys work.numbers.items closed work.draft
+
+-- names that have the property were added, each with a nonterminal; those that were there keep theirs
+pub record Adds (old new : Work) (P : SetName → Type 0) : Type 0 where
+  pub names : Keeps old.names.keys new.names.keys
+  pub numbers : Keeps old.numbers.items new.numbers.items
+  pub paired : IsPaired new
+  pub only : (n : SetName) → Contains new.names.keys n → Contains old.names.keys n ⊎ P n
+
+-- nonterminals for the names that were added, and so many more at most, and so many productions and rules
+abbrev pub Grows : Work → Work → ℕ → ℕ → Type 0
+Grows old new n m =
+    (numbers_due new.draft + length old.names.keys ≤ numbers_due old.draft + length new.names.keys + n)
+    × (lines_due new.draft ≤ lines_due old.draft + m)
+
+-- the name has the nonterminal, and nothing else was added
+pub record IsNameNumbered (old new : Work) (n : SetName) (k : ℕ) : Type 0 where
+  pub adds : Adds old new (λ m. m ≡ n)
+  pub at : HasNumber new n k
+  pub stands : (rows : List (SetName × Form SetName)) (starts : List SetName) (closed : Closed) → Stands rows starts closed old
+      → Stands rows starts closed new
+  pub grows : Grows old new 0 0
+
+-- each name in the form has its nonterminal, and nothing else was added
+pub record IsFormNumbered (old new : Work) (f : Form SetName) (g : Form ℕ) : Type 0 where
+  pub adds : Adds old new (Contains (all_names f))
+  pub alike : Alike (HasNumber new) f g
+  pub stands : (rows : List (SetName × Form SetName)) (starts : List SetName) (closed : Closed) → Stands rows starts closed old
+      → Stands rows starts closed new
+  pub grows : Grows old new 0 0
+
+-- a row was written for this form of a name that has this nonterminal
+pub record IsRowWritten (old new : Work) (set : ℕ) (f : Form SetName) : Type 0 where
+  pub adds : Adds old new (Contains (all_names f))
+  pub stands : (rows : List (SetName × Form SetName)) (starts : List SetName) (closed : Closed) (n : SetName) → HasNumber old n set
+      → Stands rows starts closed old → Stands (rows ++ (n, f) ∷ []) starts closed new
+  pub grows : Grows old new (text_bytes f) (text_bytes f + 1)
+
+-- a row was written for each of these forms of a name that has this nonterminal
+pub record AddsRows (old new : Work) (P : SetName → Type 0) (set : ℕ) (forms : List (Form SetName)) : Type 0 where
+  pub adds : Adds old new P
+  pub stands : (rows : List (SetName × Form SetName)) (starts : List SetName) (closed : Closed) (n : SetName) → HasNumber old n set
+      → Stands rows starts closed old → Stands (rows ++ rows_of_name n forms) starts closed new
+  pub grows : Grows old new (bytes_of forms) (length forms + bytes_of forms)
 
 -- the name may be asked for, and stands in one of the forms
 pub record AskedIn (asks : SetName → Type 0) (forms : List (Form SetName)) (n : SetName) : Type 0 where
   pub asked : asks n
   pub named : NamedIn forms n
 
--- rows of a number were added, one for each of these forms, and names that stand in them
-pub record AddsRows (asks : SetName → Type 0) (old new : List SetName) (before after : List (ℕ × Form ℕ)) (set : ℕ)
-    (forms : List (Form SetName)) : Type 0 where
-  pub keeps : Keeps old new
-  pub adds : (n : SetName) → Contains new n → Contains old n ⊎ asks n
-  pub stays : (c : ℕ × Form ℕ) → Contains before c → Contains after c
-  pub each : (k : ℕ) (g : Form ℕ) → Contains after (k, g)
-      → Contains before (k, g) ⊎ ((k ≡ set) × (f : Form SetName) × Contains forms f × IsByNumbers new f g)
-  pub all : (f : Form SetName) → Contains forms f → (g : Form ℕ) × Contains after (set, g) × IsByNumbers new f g
-  pub count : length after ≡ length before + length forms
-  pub counts : (by_name : Form SetName → ℕ) (by_number : Form ℕ → ℕ) → CountAlike new by_name by_number
-      → counted_of by_number after ≡ counted_of by_number before + sum_by by_name forms
-
--- the numbers are those of these names, as many as these, and nothing else was added
-pub record AreNumbersOf (old new some : List SetName) (numbers : List ℕ) : Type 0 where
-  pub keeps : Keeps old new
-  pub adds : (n : SetName) → Contains new n → Contains old n ⊎ Contains some n
-  pub each : (k : ℕ) → Contains numbers k → (n : SetName) × Contains some n × IsAt new n k
-  pub all : (n : SetName) → Contains some n → (k : ℕ) × Contains numbers k × IsAt new n k
-  pub count : length numbers ≡ length some
-
--- the row by which the one set takes over the other
-abbrev pub start_cell : ℕ → ℕ → ℕ × Form ℕ
-start_cell set other = (set, same_form other)
+-- the system begins with the sets of these names too
+pub record Begins (old new : Work) (names : List SetName) : Type 0 where
+  pub adds : Adds old new (Contains names)
+  pub stands : (rows : List (SetName × Form SetName)) (starts : List SetName) (closed : Closed) → Stands rows starts closed old
+      → Stands rows (starts ++ names) closed new
+  pub grows : Grows old new 0 (length names)

@@ -4,12 +4,12 @@ use Rattle.flow_code.specs.Points.{PlainFlowFunction, PlainFlow, points_in}
 use Rattle.flow_code.specs.View.{plain_flow}
 use Rattle.loose_sets.specs.Keys.{told_keys}
 use Rattle.ssa_form.specs.Versions.{IsExact, AreOnce, AreJoins}
-use Rattle.set_listing.specs.declared.name.Aspect.{Aspect}
-use Rattle.set_listing.specs.declared.name.SetVersion.TheVariants.{Point, Entry, Join}
-use Rattle.set_listing.specs.declared.name.SetName.{SetName}
-use Rattle.set_listing.specs.declared.name.SetName.TheVariants.{Value, Members, Shown, Result, Input, Output, Joined, Piece, FurtherPiece, FurtherPieces, Out}
-use Rattle.set_listing.specs.Uses.{At}
-use Rattle.set_listing.specs.Arrays.{Forms}
+use Rattle.loose_sets.specs.declared.name.Aspect.{Aspect}
+use Rattle.loose_sets.specs.declared.name.SetVersion.TheVariants.{Point, Entry, Join}
+use Rattle.loose_sets.specs.declared.name.SetName.{SetName}
+use Rattle.loose_sets.specs.declared.name.SetName.TheVariants.{Value, Members, Shown, Result, Input, Output, Joined, Piece, FurtherPiece, FurtherPieces, Out}
+use Rattle.loose_sets.specs.Uses.{At}
+use Rattle.loose_sets.specs.Arrays.{Forms}
 use Rattle.point_listing.specs.Reading.{read_at}
 use Rattle.point_listing.specs.Views.{keys_seen}
 use Rattle.flow_graph.specs.Rows.{points_seen}
@@ -18,9 +18,9 @@ use Rattle.flow_graph.specs.Handed.{handings_from, AreGroups}
 use Rattle.flow_graph.specs.Found.{pairs_under}
 use Rattle.flow_graph.specs.Tables.{pairs_seen}
 use Rattle.point_listing.specs.Links.{links_seen}
-use Rattle.set_listing.specs.Functions.{used_pairs, entry_forms}
-use Rattle.set_listing.specs.Versions.{members_forms, shown_forms, link_forms}
-use Rattle.set_listing.specs.Names.{point_of, forms_from, forms_there}
+use Rattle.loose_sets.specs.Functions.{used_pairs, entry_forms}
+use Rattle.loose_sets.specs.Members.{members_forms, shown_forms, link_forms}
+use Rattle.loose_sets.specs.Table.{point_of, forms_from, forms_there}
 use Rattle.extraction.specs.Params.{AreParams, is_null}
 use Rattle.extraction.specs.declared.tables.FlowTables.{FlowTables}
 

@@ -2,14 +2,14 @@
 
 ghost use Rattle.std.specs.Prelude.{◌≡◌, OnOk, slice_get};
 ghost use Rattle.flow_graph.specs.Tables.{pairs_seen};
-ghost use Rattle.set_listing.specs.Functions.{used_pairs, entry_forms};
+ghost use Rattle.loose_sets.specs.Functions.{used_pairs, entry_forms};
 ghost use Rattle.point_listing.specs.Places.{Adds};
 ghost use Rattle.extraction.specs.Tables as spec;
 
 use crate::params::is_null;
 use crate::tables::FlowTables;
-use point_listing::{push_entry, push_pairs};
-use set_listing::{Aspect, NamedForm};
+use loose_sets::Aspect;
+use point_listing::{NamedForm, push_entry, push_pairs};
 use std::alloc::Global;
 use text_base::NoMemory;
 

@@ -9,10 +9,10 @@ ghost use Rattle.extraction.specs.Rules.{AreLooseRules};
 ghost use Rattle.extraction.specs.ListedMade.{IsMade};
 ghost use Rattle.extraction.specs.Bounds.{IsBounded};
 
-use crate::{FlowLister, extract_by};
+use crate::{FlowLister, Plain, extract_by};
 use flow_code::FlowProgram;
+use given_texts::given_texts;
 use op_system::OpSystem;
-use set_tables::{Plain, given_texts};
 use std::alloc::Global;
 use text_base::NoMemory;
 
@@ -30,6 +30,6 @@ pub fn extract(alloc: Global, flow: &FlowProgram) -> Result<OpSystem, NoMemory>
 {
     let lister = FlowLister::new(alloc, flow)?;
     let given = given_texts(alloc)?;
-    let system = extract_by(alloc, flow, &lister, &Plain, &given)?;
+    let system = extract_by(alloc, flow, &lister, &Plain, given)?;
     Ok(system)
 }

@@ -8,7 +8,8 @@ ghost use Rattle.extraction.specs.FlowAsked.{IsAsked};
 
 use crate::{FlowTables, Lister, forms_by, tables_of};
 use flow_code::FlowProgram;
-use set_listing::{NamedForm, SetName};
+use loose_sets::SetName;
+use point_listing::NamedForm;
 use std::alloc::Global;
 use text_base::NoMemory;
 

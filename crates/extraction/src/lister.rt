@@ -2,11 +2,12 @@
 
 ghost use Rattle.std.specs.Prelude.{◌≡◌, List, IfOk};
 ghost use Rattle.least_sets.specs.Forms.{Form};
-ghost use Rattle.set_listing.specs.declared.name.SetName as plain;
-ghost use Rattle.set_listing.specs.Forms.{forms_seen};
+ghost use Rattle.loose_sets.specs.declared.name.SetName as plain;
+ghost use Rattle.point_listing.specs.Forms.{forms_seen};
 ghost use Rattle.extraction.specs.Asked.{AreAsked};
 
-use set_listing::{NamedForm, SetName};
+use loose_sets::SetName;
+use point_listing::NamedForm;
 use std::alloc::Global;
 use text_base::NoMemory;
 

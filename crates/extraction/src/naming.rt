@@ -1,20 +1,20 @@
 //! The forms of a set by its name.
 
 ghost use Rattle.std.specs.Prelude.{◌≡◌, IfOk, OnOk};
-ghost use Rattle.set_listing.specs.Forms.{forms_seen};
-ghost use Rattle.set_listing.specs.Names as names;
+ghost use Rattle.point_listing.specs.Forms.{forms_seen};
+ghost use Rattle.loose_sets.specs.Table as names;
 ghost use Rattle.point_listing.specs.Places.{Adds};
 ghost use Rattle.extraction.specs.Tables.{lists_of, further_forms};
 
 use crate::entries::{push_entered, push_results};
 use crate::tables::FlowTables;
-use point_listing::{Place, push_links, push_members, push_named, push_shown};
-use set_listing::{NamedForm, SetName, SetVersion};
+use loose_sets::{SetName, SetVersion};
+use point_listing::{NamedForm, Place, push_links, push_members, push_named, push_shown};
 use std::alloc::Global;
 use text_base::NoMemory;
 
 // The point to which a set belongs, if it belongs to one.
-#[tactic(auto, unfolding(set_listing::specs::Names::point_of))]
+#[tactic(auto, unfolding(loose_sets::specs::Table::point_of))]
 fn point_of(name: SetName) -> Option<u64>
     ensures { result ≡ names.point_of name }
 {

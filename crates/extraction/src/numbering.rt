@@ -1,84 +1,62 @@
-//! Numbering sets.
+//! Nonterminals of names.
 
-ghost use Rattle.std.specs.Prelude.{◌≡◌, ◌<◌, ◌+◌, ◌++◌, map, length, Contains, IfOk, OnOk};
-ghost use Rattle.least_sets.specs.Forms.{same_form};
-ghost use Rattle.set_listing.specs.declared.name.SetName as plain;
-ghost use Rattle.set_tables.specs.Below.{RowsAreBelow};
-ghost use Rattle.set_tables.specs.Forms.{cells_of};
-ghost use Rattle.extraction.specs.Numbered.{AreNumbered};
-ghost use Rattle.extraction.specs.Steps.{AreNumbersOf, start_cell};
+ghost use Rattle.std.specs.Prelude.{IfOk};
+ghost use Rattle.point_listing.specs.Forms.{form_seen};
+ghost use Rattle.system_writing.specs.Forms.{form_of};
+ghost use Rattle.extraction.specs.Steps.{IsPaired, IsNameNumbered, IsFormNumbered};
 
-use crate::Lister;
-use crate::forms::number_name;
-use crate::listing::list_all;
-use indexmap::IndexSet;
-use numbered_sets::count;
-use set_listing::SetName;
-use set_tables::{Row, RowForm, SetTable};
-use std::alloc::Global;
+use crate::work::Work;
+use loose_sets::SetName;
+use numbered_sets::{count, number};
+use point_listing::NamedForm;
+use system_writing::RowForm;
 use text_base::NoMemory;
 
-/// Names of sets with their numbers, and the table of these sets.
-#[derive(Debug, Drop)]
-pub struct Numbered {
-    pub names: IndexSet<SetName>,
-    pub table: SetTable,
-}
-
-/// The numbers of some names, which are put behind the others where they are new.
-fn number_all(
-    alloc: Global,
-    names: &mut IndexSet<SetName>,
-    some: &[SetName],
-) -> Result<Vec<u64>, NoMemory>
-    ensures { IfOk result
-        (λ numbers. AreNumbersOf names.old.keys names.new.keys some.now numbers.items) }
+/// The nonterminal of a name; a new name is put behind the others, with a new one.
+pub fn number_name(work: &mut Work, name: SetName) -> Result<u64, NoMemory>
+    requires { IsPaired work.old }
+    ensures { IfOk result (IsNameNumbered work.old work.new name) }
 {
-    let mut numbers = Vec::new(alloc);
-    for name in some {
-        let number = number_name(names, *name)?;
-        numbers.push(number)?;
+    let (place, _) = number(&mut work.names, name)?;
+    if count(&work.names) > work.numbers.len() {
+        let set = work.draft.add_set()?;
+        work.numbers.push(set)?;
+        return Ok(set);
     }
-    Ok(numbers)
+    Ok(work.numbers[place])
 }
 
-/// Adds rows by which a set takes over others.
-fn take_over(rows: &mut Vec<Row>, set: u64, others: &[u64]) -> Result<(), NoMemory>
-    ensures { OnOk result
-        (cells_of rows.new.items ≡ cells_of rows.old.items ++ map (start_cell set) others.now) }
-{
-    for other in others {
-        rows.push(Row {
-            set,
-            form: RowForm::Same(*other),
-        })?;
-    }
-    Ok(())
-}
-
-/// The sets of these names, and of all names that their rows name, and so on, as a table by
-/// numbers. Each name has one number, the rows of a number are exactly those that the lister lists
-/// for its name, and the start is one set more that takes over those of the names to begin with.
-/// Linear in the rows, beside what the lister takes for them.
-pub fn number_sets<L: Lister>(
-    alloc: Global,
-    lister: &L,
-    starts: &[SetName],
-) -> Result<Numbered, NoMemory>
-    requires { (n : plain.SetName) → Contains starts.now n → L.asks lister.now n }
+/// The form by the nonterminals of its names.
+pub fn number_form(work: &mut Work, form: NamedForm) -> Result<RowForm, NoMemory>
+    requires { IsPaired work.old }
     ensures { IfOk result
-        (λ n. AreNumbered (L.asks lister.now) (L.lists lister.now) starts.now n.names.keys
-        n.table.start n.table.count (cells_of n.table.rows.items)) }
+        (λ row. IsFormNumbered work.old work.new (form_seen form) (form_of row)) }
 {
-    let mut names = IndexSet::new(alloc);
-    let firsts = number_all(alloc, &mut names, starts)?;
-    let mut rows = list_all(alloc, lister, &mut names)?;
-    let start = count(&names) as u64;
-    take_over(&mut rows, start, &firsts)?;
-    let table = SetTable {
-        start,
-        count: start + 1,
-        rows,
-    };
-    Ok(Numbered { names, table })
+    match form {
+        NamedForm::Text(text) => Ok(RowForm::Text(text)),
+        NamedForm::Same(name) => {
+            let set = number_name(work, name)?;
+            Ok(RowForm::Same(set))
+        }
+        NamedForm::Join(first, second) => {
+            let before = number_name(work, first)?;
+            let behind = number_name(work, second)?;
+            Ok(RowForm::Join(before, behind))
+        }
+        NamedForm::Before(text, name) => {
+            let set = number_name(work, name)?;
+            Ok(RowForm::Before(text, set))
+        }
+        NamedForm::Request => Ok(RowForm::Request),
+        NamedForm::Integer => Ok(RowForm::Integer),
+        NamedForm::Apply(op, name) => {
+            let set = number_name(work, name)?;
+            Ok(RowForm::Apply(op, set))
+        }
+        NamedForm::Yes => Ok(RowForm::Yes),
+        NamedForm::Where(text, name) => {
+            let set = number_name(work, name)?;
+            Ok(RowForm::Where(text, set))
+        }
+    }
 }

@@ -2,6 +2,7 @@
 
 ghost use Rattle.std.specs.Prelude.{◌≡◌, map, IfOk, OnOk, slice_get, ◌&&◌};
 ghost use Rattle.flow_code.specs.View.{plain_flow_function, slot_number};
+ghost use Rattle.loose_sets.specs.Functions as loose;
 ghost use Rattle.extraction.specs.Params as spec;
 
 use flow_code::FlowFunction;
@@ -41,14 +42,14 @@ pub fn params_of(
 
 // Whether a slot is one of a function's own.
 fn owns(function: &FlowFunction, slot: u64) -> bool
-    ensures { result ≡ spec.owns (plain_flow_function function.now) slot }
+    ensures { result ≡ loose.owns (plain_flow_function function.now) slot }
 {
     function.first_slot.0 <= slot && slot - function.first_slot.0 < function.slots
 }
 
 // Whether a slot is one of those of the function of a number.
 fn is_owned(functions: &[FlowFunction], number: u64, slot: u64) -> bool
-    ensures { result ≡ spec.is_owned (slice_get (map plain_flow_function functions.now) number) slot }
+    ensures { result ≡ loose.is_owned (slice_get (map plain_flow_function functions.now) number) slot }
 {
     match functions.get(number as usize) {
         Some(function) => owns(function, slot),

@@ -11,7 +11,7 @@ use Rattle.cfg_grammar.specs.declared.symbol.Symbol.TheVariants.{Range, Nt}
 use Rattle.cfg_grammar.specs.declared.production.Right.TheVariants.{Empty, One, Two}
 use Rattle.cfg_grammar.specs.declared.production.Production.{Production}
 use Rattle.cfg_grammar.specs.Derives.{Derives}
-use Rattle.least_sets.specs.Closed.{HasText}
+use Rattle.given_texts.specs.Closed.{HasText}
 
 module _ (r : ByteRange) (low : r.lo ≡ 97) (high : r.hi ≡ 97) where
   abbrev only : Production

@@ -1,10 +1,12 @@
 //! Tests of extraction, from the text of a script to the texts of its grammar.
 //! Small scripts with texts that are among their loose pages and texts that are not, worked out by
-//! hand; the same by a reading whose request brings `a` alone; and scripts whose systems stay
-//! small.
+//! hand; the same by a reading whose request brings `a` alone; scripts whose systems stay small; and
+//! short words that the grammar of given texts derives, with near misses.
 //! Used by: none; it stands at the top.
 #![tactic(auto)]
 
+#[cfg(test)]
+mod given;
 #[cfg(test)]
 mod pages;
 #[cfg(test)]
@@ -13,3 +15,5 @@ mod readings;
 mod scripts;
 #[cfg(test)]
 mod sizes;
+#[cfg(test)]
+mod words;

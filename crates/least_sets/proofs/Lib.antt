@@ -1,6 +1,2 @@
 pub mod OutputBytes
 pub mod Simulated
-pub mod Simulating
-pub mod Parts
-pub mod Texts
-pub mod Same

@@ -4,6 +4,3 @@ pub mod Integers
 pub mod Sets
 pub mod Simulations
 pub mod Systems
-pub mod Parts
-pub mod Written
-pub mod Closed

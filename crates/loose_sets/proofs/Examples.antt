@@ -1,17 +1,11 @@
 -- Definitions that reach a point and that do not, keys that are told apart, and loose pages of small programs; and what loose pages do not
 -- show: which way a branch goes, and the parameter of a function that is never called.
-use Rattle.std.proofs.Common.{inl, inr, ◌⊎◌, ◌≡◌, ℕ, zero, suc, pos, Bool, true, false, not, ◌&&◌, List, [], ◌∷◌, None, Some, refl, sym, ap, ◌∙◌, subst, arith}
-use Rattle.std.specs.Prelude.{⊤, codes, Contains, All, slice_get, nat_eq}
-use Rattle.std.specs.List.{list_any}
+use Rattle.std.proofs.Common.{inl, inr, ◌⊎◌, ◌≡◌, ℕ, zero, suc, pos, true, false, [], ◌∷◌, None, Some, refl, sym, ap, ◌∙◌, subst, arith}
+use Rattle.std.specs.Prelude.{codes, Contains}
 use Rattle.std.specs.Fmt.{digits}
-use Rattle.std.proofs.lemmas.Bool.{and_parts}
-use Rattle.std.proofs.lemmas.Cmp.{nat_eq_equiv}
-use Rattle.std.proofs.lemmas.Map.Views.{list_any-from_Contains}
-use Rattle.xml_text.specs.Texts.{IsText}
-use Rattle.op_system.specs.Rel.{Rel}
 use Rattle.php_syntax.specs.Trees.{PlainExpr, int_expr, text_expr, var_expr, array_expr, assign_expr, and_expr, or_expr, no_expr, some_expr, PlainExprs, no_exprs, more_exprs, no_items, more_items, no_keys, PlainStmt, echo_stmt, run_stmt, inline_stmt, PlainStmts, no_stmts, more_stmts}
 use Rattle.plain_values.specs.Plain.{null, text, int_key, text_key}
-use Rattle.flow_code.specs.Points.{PlainPoint, PlainFlowFunction, PlainFlow, point_at, function_at, points_in, set_point, call_point, print_point, echo_point, branch_point, return_point, literal_source, copy_source, array_source, truth_source, int_ref}
+use Rattle.flow_code.specs.Points.{PlainPoint, PlainFlow, point_at, points_in, set_point, print_point, echo_point, branch_point, return_point, literal_source, copy_source, truth_source, int_ref}
 use Rattle.flow_code.specs.declared.source.Work.TheVariants as work
 use Rattle.flow_code.specs.Lawful.{sets, nexts}
 use Rattle.flow_code.specs.Flat.{flat}
@@ -19,13 +13,19 @@ use Rattle.flow_code.specs.Expressions.{code}
 use Rattle.flow_code.specs.Statements.{block}
 use Rattle.program_expressions.specs.Collected.{collected, collected_of}
 use Rattle.flow_code.specs.Variables.{own_names}
-use Rattle.least_sets.specs.Forms.{Form, text_form, same_form, join_form, before_form, request_form, integer_form, apply_form, where_form}
-use Rattle.least_sets.specs.Sets.{In, Says}
-use Rattle.loose_sets.specs.Reaching.{Definition, at_point, at_entry, Reaches}
+use Rattle.loose_sets.specs.Reaching.{Definition, at_point, Reaches}
 use Rattle.loose_sets.specs.Keys.{literal_key, point_keys, without_key, keys_once, told_keys, may_be}
-use Rattle.loose_sets.specs.Names.{text_half, array_half, own, by_return, Name, use_of, set_of, shown_at, out_of}
-use Rattle.loose_sets.specs.Table.{Row, SourceRow}
-use Rattle.loose_sets.specs.Loose.{IsIn, Loose}
+use Rattle.least_sets.specs.Forms.{text_form, same_form}
+use Rattle.flow_graph.specs.Returned.{returned_from, returned_slot}
+use Rattle.flow_graph.specs.Handed.{handings_from}
+use Rattle.loose_sets.specs.Uses.{where_so}
+use Rattle.loose_sets.specs.Sources.{is_own_text}
+use Rattle.loose_sets.specs.Functions.{handed_to, is_null_slot, returned_by}
+use Rattle.loose_sets.specs.Table.{point_of, forms_beside, forms, each_use}
+use Rattle.loose_sets.specs.declared.name.Half.TheVariants.{Text}
+use Rattle.loose_sets.specs.declared.name.Aspect.TheVariants.{Own}
+use Rattle.loose_sets.specs.declared.name.SetVersion.TheVariants.{Entry, Join}
+use Rattle.loose_sets.specs.declared.name.SetName.TheVariants.{Value, Result}
 
 abbrev script : PlainStmts → PlainFlow
 script body = flat (record { main_of = body; functions_of = [] })
@@ -80,28 +80,6 @@ first_stops r = elim (as_far (at_point 1) 0 4 r refl refl) [
   | inl two ↦ cc
   | inr three ↦ cc
 ]
-
--- `echo array(1);` prints `Array`
-abbrev listed : PlainFlow
-listed = script (echo_stmt (one (array_expr (more_items no_expr (int_expr (pos 1)) no_items))) then no_stmts)
-
-array_shown : Loose listed (codes "Array")
-unfolding flat code block collected collected_of own_names points_in point_at sets nexts
-array_shown = record {
-  main = _;
-  is_main = refl;
-  end = by_return;
-  printed =
-      In.same (out_of 0 by_return) (out_of 1 by_return) (codes "Array") (Row.at_silent 0 1 _ by_return refl tt (first_of_one 1))
-      (In.same (out_of 1 by_return) (out_of 2 by_return) (codes "Array") (Row.at_silent 1 2 _ by_return refl tt (first_of_one 2))
-      (In.same (out_of 2 by_return) (out_of 3 by_return) (codes "Array") (Row.at_silent 2 3 _ by_return refl tt (first_of_one 3))
-      (In.same (out_of 3 by_return) (out_of 4 by_return) (codes "Array") (Row.at_silent 3 4 _ by_return refl tt (first_of_one 4))
-      (In.join (out_of 4 by_return) (shown_at 3 4) (out_of 5 by_return) (codes "Array") [] (Row.at_echo 4 3 5 by_return refl)
-      (In.where_yes (shown_at 3 4) (use_of (own array_half) 3 4) (codes "Array") (Row.shown_array 3 4)
-      (Says.same (use_of (own array_half) 3 4) (set_of (own array_half) (at_point 3)) (Row.reaching (own array_half) (at_point 3) 3 4 (Reaches.behind 3 3 4 _ refl refl (first_of_one 4)))
-      (Says.yes (set_of (own array_half) (at_point 3)) (Row.source 3 (array_source ((None, 1) ∷ [])) (own array_half) _ (3, 4, refl) (SourceRow.array_array ((None, 1) ∷ []))))))
-      (In.same (out_of 5 by_return) (out_of 6 by_return) [] (Row.at_silent 5 6 _ by_return refl tt (first_of_one 6)) (In.text (out_of 6 by_return) [] (Row.at_return 6 4 refl)))))));
-}
 
 -- of `array('t' => 'a', 5 => 'b')` both keys are told apart, `'5'` and 5 being one; a key that comes next may be 5 and not `'t'`
 keyed : told_keys (script (run_stmt (array_expr (more_items (some_expr (text_expr (codes "t"))) (text_expr (codes "a")) (more_items (some_expr (int_expr (pos 5))) (text_expr (codes "b")) no_items))) then no_stmts))
@@ -190,140 +168,17 @@ uncalled_is : flat (record {
 unfolding flat code block collected collected_of own_names points_in
 uncalled_is = refl
 
--- whether no point leads to this one
-abbrev none_leads : ℕ → List PlainPoint → Bool
-none_leads q [] = true
-none_leads q (i ∷ is) = not (list_any (nat_eq q) (nexts i)) && none_leads q is
-
-not_led : (q : ℕ) (is : List PlainPoint) → none_leads q is ≡ true → (p : ℕ) (i : PlainPoint) → slice_get is p ≡ Some i
-    → Contains (nexts i) q → ⊥
-not_led q [] none p i e c = cc
-not_led q (j ∷ is) none zero i e c =
-    let here : j ≡ i = cc in
-    let isnt = (and_parts (not (list_any (nat_eq q) (nexts j))) (none_leads q is) none).0 in
-    let led = list_any-from_Contains nat_eq_equiv q (nexts j) (subst (λ i. Contains (nexts i) q) (sym here) c) in
-    let bad : not true ≡ true = ap not (sym led) ∙ isnt in cc
-not_led q (j ∷ is) none (suc p) i e c = not_led q is (and_parts (not (list_any (nat_eq q) (nexts j))) (none_leads q is) none).1 p i e c
-
--- whether none is a call
-abbrev is_call : PlainPoint → Bool
-is_call (call_point x n args next) = true
-is_call _ = false
-
-abbrev no_call : List PlainPoint → Bool
-no_call [] = true
-no_call (i ∷ is) = not (is_call i) && no_call is
-
-not_called : (is : List PlainPoint) → no_call is ≡ true → (p x n next : ℕ) (args : List ℕ)
-    → slice_get is p ≡ Some (call_point x n args next) → ⊥
-not_called [] none p x n next args e = cc
-not_called (i ∷ is) none zero x n next args e =
-    let here : i ≡ call_point x n args next = cc in
-    let isnt = (and_parts (not (is_call i)) (no_call is) none).0 in
-    let bad : not true ≡ true = ap (λ i. not (is_call i)) (sym here) ∙ isnt in cc
-not_called (i ∷ is) none (suc p) x n next args e = not_called is (and_parts (not (is_call i)) (no_call is) none).1 p x n next args e
-
--- its parameter comes from its entry alone
-its_entry : (f : ℕ) (g : PlainFlowFunction) → function_at uncalled f ≡ Some g → g.entry_of ≡ 3 → f ≡ 1
-its_entry zero g e at_three = cc
-its_entry (suc zero) g e at_three = refl
-its_entry (suc (suc f)) g e at_three = cc
-
-from_entry : (d : Definition) (x q : ℕ) → Reaches uncalled d x q → q ≡ 3 → x ≡ 1 → d ≡ at_entry 1 1
-unfolding points_in point_at nexts
-from_entry _ _ _ (Reaches.behind d x p i e s c) at_three is =
-    absurd (not_led 3 (points_in uncalled.functions_of) refl d i e (subst (λ p. Contains (nexts i) p) at_three c))
-from_entry _ _ _ (Reaches.entered f x g e o) at_three is = let first : f ≡ 1 = its_entry f g e at_three in cc
-from_entry _ _ _ (Reaches.onward d x p q i r e n c) at_three is =
-    absurd (not_led 3 (points_in uncalled.functions_of) refl p i e (subst (λ q. Contains (nexts i) q) at_three c))
-
--- what the rows of a use and of an entry are; of others nothing is said
-abbrev RowIs : Name → Form Name → Type 0
-RowIs (use_of a x p) f = (d : Definition) × Reaches uncalled d x p × (f ≡ same_form (set_of a d))
-RowIs (set_of a (at_entry n y)) f = (g : PlainFlowFunction) × (function_at uncalled n ≡ Some g) × (Contains g.params_of y → ⊥)
-RowIs _ f = ⊤
-
-row_is : (n : Name) (f : Form Name) → Row uncalled n f → RowIs n f
-unfolding points_in point_at
-row_is _ _ (Row.reaching a d x p reach) = (d, reach, refl)
-row_is _ _ (Row.all_others half x p) = tt
-row_is _ _ (Row.all_told half x p c told) = tt
-row_is _ _ (Row.shown_text x p) = tt
-row_is _ _ (Row.shown_array x p) = tt
-row_is _ _ (Row.source p s a f sets row) = tt
-row_is _ _ (Row.joined_end p xs sets) = tt
-row_is _ _ (Row.joined_more p i x xs sets e) = tt
-row_is _ _ (Row.piece_text p sep from f args sets) = tt
-row_is _ _ (Row.piece_array p sep from f args sets) = tt
-row_is _ _ (Row.further_piece p sep from f args sets) = tt
-row_is _ _ (Row.further_none p sep from f args sets) = tt
-row_is _ _ (Row.further_more p sep from f args sets) = tt
-row_is _ _ (Row.applied_input p from x operation f args sets reads) = tt
-row_is _ _ (Row.applied_output p from operation f args sets) = tt
-row_is _ _ (Row.split_input p from operation f args sets) = tt
-row_is _ _ (Row.split_output p from operation f args sets) = tt
-row_is _ _ (Row.walk_copy a p x from next e) = tt
-row_is _ _ (Row.walk_key p x from next e) = tt
-row_is _ _ (Row.walk_value half p x from next e) = tt
-row_is _ _ (Row.walk_deep a b p x from next e deep) = tt
-row_is _ _ (Row.result a p x n next args e) = tt
-row_is _ _ (Row.returned a n q y g e o r) = tt
-row_is _ _ (Row.parameter a p x n next y arg args g e there is) =
-    absurd (not_called (points_in uncalled.functions_of) refl p x n next args e)
-row_is _ _ (Row.null_slot n y g e o no_param) = (g, e, no_param)
-row_is _ _ (Row.at_return p x e) = tt
-row_is _ _ (Row.at_quit p e) = tt
-row_is _ _ (Row.at_quit_with p x e) = tt
-row_is _ _ (Row.at_print p next bytes end e) = tt
-row_is _ _ (Row.at_echo p x next end e) = tt
-row_is _ _ (Row.at_call p x n next args g end e there) = tt
-row_is _ _ (Row.at_call_exit p x n next args g e there) = tt
-row_is _ _ (Row.at_silent p q i end e silent leads) = tt
-
-abbrev Has : Name → List ℕ → Type 0
-Has n w = IsIn Rel IsText (λ bytes text. All bytes text) uncalled n w
-
--- where a set is the same as another, its texts are in that one
-abbrev Same : Form Name → List ℕ → Type 0
-Same (same_form c) w = Has c w
-Same _ w = ⊤
-
-made : (n : Name) (w : List ℕ) → Has n w → (f : Form Name) × Row uncalled n f × Same f w
-made _ _ (In.text a w r) = (text_form w, r, tt)
-made _ _ (In.same a c w r i) = (same_form c, r, i)
-made _ _ (In.join a c d u v r i j) = (join_form c d, r, tt)
-made _ _ (In.before a c u v r i) = (before_form u c, r, tt)
-made _ _ (In.asked a w r is) = (request_form, r, tt)
-made _ _ (In.integer a w r is) = (integer_form, r, tt)
-made _ _ (In.where_yes a c w r so) = (where_form w c, r, tt)
-made _ _ (In.apply a c op u w r i is) = (apply_form op c, r, tt)
-made _ _ (In.over_bytes a c op w r circular are) = (apply_form op c, r, tt)
-
--- so it has no text at all, not even the empty one
-nothing_there : (w : List ℕ) → Has (use_of (own text_half) 1 3) w → ⊥
-nothing_there w has =
-    let m = made (use_of (own text_half) 1 3) w has in
-    let way = row_is (use_of (own text_half) 1 3) m.0 m.1 in
-    let form : m.0 ≡ same_form (set_of (own text_half) (at_entry 1 1)) =
-    way.2 ∙ ap (λ d. same_form (set_of (own text_half) d)) (from_entry way.0 1 3 way.1 refl refl) in
-    let there : Has (set_of (own text_half) (at_entry 1 1)) w = subst (λ f. Same f w) form m.2 in
-    let n = made (set_of (own text_half) (at_entry 1 1)) w there in
-    let entry = row_is (set_of (own text_half) (at_entry 1 1)) n.0 n.1 in
-    entry.2 (its_params entry.0 entry.1)
-  where
-    its_params : (g : PlainFlowFunction) → function_at uncalled 1 ≡ Some g → Contains g.params_of 1
-    its_params g e = let are : 1 ∷ [] ≡ g.params_of = cc in subst (λ (ps : List ℕ). Contains ps 1) are (first_of_one 1)
+-- its parameter has no text at all, not even the empty one
+nothing_handed : forms each_use uncalled (Value (Own Text) (Entry 1 1)) ≡ []
+unfolding point_of forms_beside handed_to is_null_slot handings_from points_in where_so is_own_text
+nothing_handed = refl
 
 -- another slot of it is null, as if it were called
-null_there : Has (use_of (own text_half) 2 5) []
-unfolding points_in point_at nexts sets
-null_there =
-    In.same (use_of (own text_half) 2 5) (set_of (own text_half) (at_entry 1 2)) []
-    (Row.reaching (own text_half) (at_entry 1 2) 2 5
-    (Reaches.onward (at_entry 1 2) 2 4 5 _
-    (Reaches.onward (at_entry 1 2) 2 3 4 _ (Reaches.entered 1 2 _ refl (record { least = omega arith; most = omega arith })) refl (λ e. cc)
-    (first_of_one 4))
-    refl (λ e. cc) (first_of_one 5)))
-    (In.text (set_of (own text_half) (at_entry 1 2)) []
-    (Row.null_slot 1 2 _ refl (record { least = omega arith; most = omega arith })
-    (λ c. let bad : 2 ≡ 1 = only 1 2 c in absurd (omega (arith, bad)))))
+null_there : forms each_use uncalled (Value (Own Text) (Entry 1 2)) ≡ text_form [] ∷ []
+unfolding point_of forms_beside handed_to is_null_slot handings_from points_in where_so is_own_text
+null_there = refl
+
+-- it returns null
+returns_null : forms each_use uncalled (Result (Own Text) 1) ≡ same_form (Value (Own Text) (Join 8 5)) ∷ []
+unfolding point_of forms_beside returned_by returned_from returned_slot points_in
+returns_null = refl

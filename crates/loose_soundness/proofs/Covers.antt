@@ -8,9 +8,11 @@ use Rattle.plain_values.specs.Members.{member, put_pair}
 use Rattle.plain_values.specs.Text.{text_of}
 use Rattle.plain_values.specs.Walks.{value_of_key}
 use Rattle.plain_values.proofs.SameKeys.{same_is}
-use Rattle.loose_sets.specs.Keys.{is_among}
-use Rattle.loose_sets.specs.Names.{Half, text_half, array_half, Aspect, own, others, keys_of}
-use Rattle.loose_sets.specs.Names as aspect
+use Rattle.loose_sets.specs.Uses.{in_member, number_from}
+use Rattle.loose_sets.specs.declared.name.Aspect.{Aspect}
+use Rattle.loose_sets.specs.declared.name.Aspect.TheVariants.{Own, Others, Keys}
+use Rattle.loose_sets.specs.declared.name.Half.{Half}
+use Rattle.loose_sets.specs.declared.name.Half.TheVariants as half
 
 -- texts and a yes
 abbrev pub Texts : Type 1
@@ -59,18 +61,18 @@ Yes = Aspect → Type 0
 
 -- the aspect of a member under a key
 abbrev pub place : List PlainKey → PlainKey → Half → Aspect
-place told k half = if is_among k told then aspect.member k half else others half
+place told k half = in_member half (number_from 0 k told)
 
 abbrev pub MembersIn : List PlainKey → Has → Yes → Pairs → Type 0
 MembersIn told H Y empty = ⊤
-MembersIn told H Y (pair k v ps) = OwnIn (H (place told k text_half)) (Y (place told k array_half)) v × InsideIn (H (others text_half)) (Y (others array_half)) v × MembersIn told H Y ps
+MembersIn told H Y (pair k v ps) = OwnIn (H (place told k half.Text)) (Y (place told k half.Array)) v × InsideIn (H (Others half.Text)) (Y (Others half.Array)) v × MembersIn told H Y ps
 
 abbrev pub Covers : List PlainKey → Has → Yes → Plain → Type 0
-Covers told H Y null = H (own text_half) []
-Covers told H Y (flag b) = H (own text_half) (text_of (flag b))
-Covers told H Y (int z) = H (own text_half) (text_of (int z))
-Covers told H Y (text t) = H (own text_half) t
-Covers told H Y (array ps) = Y (own array_half) × MembersIn told H Y ps × KeysInAll (H keys_of) ps
+Covers told H Y null = H (Own half.Text) []
+Covers told H Y (flag b) = H (Own half.Text) (text_of (flag b))
+Covers told H Y (int z) = H (Own half.Text) (text_of (int z))
+Covers told H Y (text t) = H (Own half.Text) t
+Covers told H Y (array ps) = Y (Own half.Array) × MembersIn told H Y ps × KeysInAll (H Keys) ps
 
 -- wider sets
 pub own_wider : (T U : Texts) (A B : Type 0) → ((w : List ℕ) → T w → U w) → (A → B) → (v : Plain) → OwnIn T A v → OwnIn U B v
@@ -107,24 +109,24 @@ mutual
 pub members_wider : (told : List PlainKey) (H G : Has) (Y Z : Yes) → ((a : Aspect) (w : List ℕ) → H a w → G a w) → ((a : Aspect) → Y a → Z a) → (ps : Pairs) → MembersIn told H Y ps → MembersIn told G Z ps
 members_wider told H G Y Z t a empty h = tt
 members_wider told H G Y Z t a (pair k v ps) h =
-    (own_wider _ _ _ _ (t (place told k text_half)) (a (place told k array_half)) v h.0, inside_wider _ _ _ _ (t (others text_half)) (a (others array_half)) v h.1, members_wider told H G Y Z t a ps h.2)
+    (own_wider _ _ _ _ (t (place told k half.Text)) (a (place told k half.Array)) v h.0, inside_wider _ _ _ _ (t (Others half.Text)) (a (Others half.Array)) v h.1, members_wider told H G Y Z t a ps h.2)
 
 pub covers_wider : (told : List PlainKey) (H G : Has) (Y Z : Yes) → ((a : Aspect) (w : List ℕ) → H a w → G a w) → ((a : Aspect) → Y a → Z a) → (v : Plain) → Covers told H Y v → Covers told G Z v
-covers_wider told H G Y Z t a null h = t (own text_half) [] h
-covers_wider told H G Y Z t a (flag b) h = t (own text_half) _ h
-covers_wider told H G Y Z t a (int z) h = t (own text_half) _ h
-covers_wider told H G Y Z t a (text w) h = t (own text_half) w h
-covers_wider told H G Y Z t a (array ps) h = (a (own array_half) h.0, members_wider told H G Y Z t a ps h.1, all_keys_wider _ _ (t keys_of) ps h.2)
+covers_wider told H G Y Z t a null h = t (Own half.Text) [] h
+covers_wider told H G Y Z t a (flag b) h = t (Own half.Text) _ h
+covers_wider told H G Y Z t a (int z) h = t (Own half.Text) _ h
+covers_wider told H G Y Z t a (text w) h = t (Own half.Text) w h
+covers_wider told H G Y Z t a (array ps) h = (a (Own half.Array) h.0, members_wider told H G Y Z t a ps h.1, all_keys_wider _ _ (t Keys) ps h.2)
 
 -- what covers a value says of it alone, of its members, and of its keys
-pub covers_own : (told : List PlainKey) (H : Has) (Y : Yes) (v : Plain) → Covers told H Y v → OwnIn (H (own text_half)) (Y (own array_half)) v
+pub covers_own : (told : List PlainKey) (H : Has) (Y : Yes) (v : Plain) → Covers told H Y v → OwnIn (H (Own half.Text)) (Y (Own half.Array)) v
 covers_own told H Y null h = h
 covers_own told H Y (flag b) h = h
 covers_own told H Y (int z) h = h
 covers_own told H Y (text t) h = h
 covers_own told H Y (array ps) h = h.0
 
-pub covers_keys : (told : List PlainKey) (H : Has) (Y : Yes) (v : Plain) → Covers told H Y v → KeysIn (H keys_of) v
+pub covers_keys : (told : List PlainKey) (H : Has) (Y : Yes) (v : Plain) → Covers told H Y v → KeysIn (H Keys) v
 covers_keys told H Y null h = tt
 covers_keys told H Y (flag b) h = tt
 covers_keys told H Y (int z) h = tt
@@ -133,20 +135,20 @@ covers_keys told H Y (array ps) h = h.2
 
 -- members as members at any depth
 pub members_all : (told : List PlainKey) (H : Has) (Y : Yes) (T : Texts) (A : Type 0)
-    → ((k : PlainKey) (w : List ℕ) → H (place told k text_half) w → T w) → ((k : PlainKey) → Y (place told k array_half) → A)
-    → ((w : List ℕ) → H (others text_half) w → T w) → (Y (others array_half) → A) → (ps : Pairs) → MembersIn told H Y ps → AllIn T A ps
+    → ((k : PlainKey) (w : List ℕ) → H (place told k half.Text) w → T w) → ((k : PlainKey) → Y (place told k half.Array) → A)
+    → ((w : List ℕ) → H (Others half.Text) w → T w) → (Y (Others half.Array) → A) → (ps : Pairs) → MembersIn told H Y ps → AllIn T A ps
 members_all told H Y T A t a u b empty h = tt
 members_all told H Y T A t a u b (pair k v ps) h = (own_wider _ _ _ _ (t k) (a k) v h.0, inside_wider _ _ _ _ u b v h.1, members_all told H Y T A t a u b ps h.2)
 
 -- and the reverse, where the texts of the members go under each key
 pub all_members : (told : List PlainKey) (H : Has) (Y : Yes) (T : Texts) (A : Type 0)
-    → ((k : PlainKey) (w : List ℕ) → T w → H (place told k text_half) w) → ((k : PlainKey) → A → Y (place told k array_half))
-    → ((w : List ℕ) → T w → H (others text_half) w) → (A → Y (others array_half)) → (ps : Pairs) → AllIn T A ps → MembersIn told H Y ps
+    → ((k : PlainKey) (w : List ℕ) → T w → H (place told k half.Text) w) → ((k : PlainKey) → A → Y (place told k half.Array))
+    → ((w : List ℕ) → T w → H (Others half.Text) w) → (A → Y (Others half.Array)) → (ps : Pairs) → AllIn T A ps → MembersIn told H Y ps
 all_members told H Y T A t a u b empty h = tt
 all_members told H Y T A t a u b (pair k v ps) h = (own_wider _ _ _ _ (t k) (a k) v h.0, inside_wider _ _ _ _ u b v h.1, all_members told H Y T A t a u b ps h.2)
 
--- a value whose own text is in a set and which has no member
-pub covers_text : (told : List PlainKey) (H : Has) (Y : Yes) (v : Plain) → OwnIn (H (own text_half)) ⊥ v → Covers told H Y v
+-- a value whose Own text is in a set and which has no member
+pub covers_text : (told : List PlainKey) (H : Has) (Y : Yes) (v : Plain) → OwnIn (H (Own half.Text)) ⊥ v → Covers told H Y v
 covers_text told H Y null h = h
 covers_text told H Y (flag b) h = h
 covers_text told H Y (int z) h = h
@@ -155,8 +157,8 @@ covers_text told H Y (array ps) h = absurd h
 
 -- a value by itself and by its members at any depth
 pub covers_deep : (told : List PlainKey) (H : Has) (Y : Yes) (T : Texts) (A : Type 0)
-    → ((k : PlainKey) (w : List ℕ) → T w → H (place told k text_half) w) → ((k : PlainKey) → A → Y (place told k array_half))
-    → ((w : List ℕ) → T w → H (others text_half) w) → (A → Y (others array_half)) → (v : Plain) → OwnIn (H (own text_half)) (Y (own array_half)) v → InsideIn T A v → KeysIn (H keys_of) v
+    → ((k : PlainKey) (w : List ℕ) → T w → H (place told k half.Text) w) → ((k : PlainKey) → A → Y (place told k half.Array))
+    → ((w : List ℕ) → T w → H (Others half.Text) w) → (A → Y (Others half.Array)) → (v : Plain) → OwnIn (H (Own half.Text)) (Y (Own half.Array)) v → InsideIn T A v → KeysIn (H Keys) v
     → Covers told H Y v
 covers_deep told H Y T A t a u b null o i k = o
 covers_deep told H Y T A t a u b (flag x) o i k = o
@@ -166,19 +168,19 @@ covers_deep told H Y T A t a u b (array ps) o i k = (o, all_members told H Y T A
 
 -- the member of a key
 pub member_own : (told : List PlainKey) (H : Has) (Y : Yes) (T : Texts) (A : Type 0) (k : PlainKey) → T []
-    → ((w : List ℕ) → H (place told k text_half) w → T w) → (Y (place told k array_half) → A) → (ps : Pairs) → MembersIn told H Y ps → OwnIn T A (member ps k)
+    → ((w : List ℕ) → H (place told k half.Text) w → T w) → (Y (place told k half.Array) → A) → (ps : Pairs) → MembersIn told H Y ps → OwnIn T A (member ps k)
 member_own told H Y T A k n t a empty h = n
 member_own told H Y T A k n t a (pair j v ps) h = by (same_key j k) refl (member_own told H Y T A k n t a ps h.2)
   where
     by : (b : Bool) → same_key j k ≡ b → OwnIn T A (member ps k) → OwnIn T A (if b then v else member ps k)
-    by true e rest = own_wider _ _ _ _ t a v (subst (λ j. OwnIn (H (place told j text_half)) (Y (place told j array_half)) v) (same_is j k e) h.0)
+    by true e rest = own_wider _ _ _ _ t a v (subst (λ j. OwnIn (H (place told j half.Text)) (Y (place told j half.Array)) v) (same_is j k e) h.0)
     by false e rest = rest
 
-pub member_inside : (told : List PlainKey) (H : Has) (Y : Yes) (k : PlainKey) (ps : Pairs) → MembersIn told H Y ps → InsideIn (H (others text_half)) (Y (others array_half)) (member ps k)
+pub member_inside : (told : List PlainKey) (H : Has) (Y : Yes) (k : PlainKey) (ps : Pairs) → MembersIn told H Y ps → InsideIn (H (Others half.Text)) (Y (Others half.Array)) (member ps k)
 member_inside told H Y k empty h = tt
 member_inside told H Y k (pair j v ps) h = by (same_key j k) (member_inside told H Y k ps h.2)
   where
-    by : (b : Bool) → InsideIn (H (others text_half)) (Y (others array_half)) (member ps k) → InsideIn (H (others text_half)) (Y (others array_half)) (if b then v else member ps k)
+    by : (b : Bool) → InsideIn (H (Others half.Text)) (Y (Others half.Array)) (member ps k) → InsideIn (H (Others half.Text)) (Y (Others half.Array)) (if b then v else member ps k)
     by true rest = h.1
     by false rest = rest
 
@@ -218,11 +220,11 @@ keys_put K k v (pair j u ps) t i h = by (same_key j k) (keys_put K k v ps t i h.
 -- members but for that under a key
 abbrev pub ButFor : PlainKey → List PlainKey → Has → Yes → Pairs → Type 0
 ButFor k told H Y empty = ⊤
-ButFor k told H Y (pair j v ps) = (same_key j k ≡ false → OwnIn (H (place told j text_half)) (Y (place told j array_half)) v) × InsideIn (H (others text_half)) (Y (others array_half)) v × ButFor k told H Y ps
+ButFor k told H Y (pair j v ps) = (same_key j k ≡ false → OwnIn (H (place told j half.Text)) (Y (place told j half.Array)) v) × InsideIn (H (Others half.Text)) (Y (Others half.Array)) v × ButFor k told H Y ps
 
 pub but_for : (k : PlainKey) (told : List PlainKey) (H G : Has) (Y Z : Yes)
-    → ((j : PlainKey) → same_key j k ≡ false → (w : List ℕ) → H (place told j text_half) w → G (place told j text_half) w) → ((j : PlainKey) → same_key j k ≡ false → Y (place told j array_half) → Z (place told j array_half))
-    → ((w : List ℕ) → H (others text_half) w → G (others text_half) w) → (Y (others array_half) → Z (others array_half)) → (ps : Pairs) → MembersIn told H Y ps → ButFor k told G Z ps
+    → ((j : PlainKey) → same_key j k ≡ false → (w : List ℕ) → H (place told j half.Text) w → G (place told j half.Text) w) → ((j : PlainKey) → same_key j k ≡ false → Y (place told j half.Array) → Z (place told j half.Array))
+    → ((w : List ℕ) → H (Others half.Text) w → G (Others half.Text) w) → (Y (Others half.Array) → Z (Others half.Array)) → (ps : Pairs) → MembersIn told H Y ps → ButFor k told G Z ps
 but_for k told H G Y Z t a u b empty h = tt
 but_for k told H G Y Z t a u b (pair j v ps) h =
     ((λ e. own_wider _ _ _ _ (t j e) (a j e) v h.0), inside_wider _ _ _ _ u b v h.1, but_for k told H G Y Z t a u b ps h.2)
@@ -242,12 +244,12 @@ and_parts true b e = (refl, e)
 and_parts false b e = cc
 
 pub members_put : (told : List PlainKey) (H : Has) (Y : Yes) (k : PlainKey) (v : Plain) (ps : Pairs) → are_distinct (keys ps) ≡ true
-    → OwnIn (H (place told k text_half)) (Y (place told k array_half)) v → InsideIn (H (others text_half)) (Y (others array_half)) v → ButFor k told H Y ps → MembersIn told H Y (put_pair ps k v)
+    → OwnIn (H (place told k half.Text)) (Y (place told k half.Array)) v → InsideIn (H (Others half.Text)) (Y (Others half.Array)) v → ButFor k told H Y ps → MembersIn told H Y (put_pair ps k v)
 members_put told H Y k v empty d o i h = (o, i, tt)
 members_put told H Y k v (pair j u ps) d o i h = let parts = and_parts (is_absent (keys ps) j) (are_distinct (keys ps)) d in by parts.0 (same_key j k) refl (members_put told H Y k v ps parts.1 o i h.2)
   where
     by : is_absent (keys ps) j ≡ true → (b : Bool) → same_key j k ≡ b → MembersIn told H Y (put_pair ps k v) → MembersIn told H Y (if b then pair j v ps else pair j u (put_pair ps k v))
     by a true e rest =
         let is : j ≡ k = same_is j k e in
-        (subst (λ k. OwnIn (H (place told k text_half)) (Y (place told k array_half)) v) (sym is) o, i, absent_members k told H Y ps (subst (λ k. is_absent (keys ps) k ≡ true) is a) h.2)
+        (subst (λ k. OwnIn (H (place told k half.Text)) (Y (place told k half.Array)) v) (sym is) o, i, absent_members k told H Y ps (subst (λ k. is_absent (keys ps) k ≡ true) is a) h.2)
     by a false e rest = (h.0 e, h.1, rest)

@@ -16,8 +16,12 @@ use Rattle.flow_code.specs.Lawful.{IsItemKey, IsKeyLiteral}
 use Rattle.flow_code.specs.Runs.{Slots, key_value, maybe_key_value, item_value}
 use Rattle.loose_sets.specs.Reaching.{at_point}
 use Rattle.loose_sets.specs.Keys.{told_keys}
-use Rattle.loose_sets.specs.Names.{text_half, array_half, own, member, others, keys_of, use_of, all_of}
-use Rattle.loose_sets.specs.Table.{SourceRow, SetsTo}
+use Rattle.loose_sets.specs.declared.name.Aspect.TheVariants.{Own, Member, Others, Keys}
+use Rattle.loose_sets.specs.declared.name.Half.TheVariants as half
+use Rattle.loose_soundness.proofs.Names.{use_of, all_of}
+use Rattle.loose_sets.specs.Table.{SetsTo}
+use Rattle.loose_soundness.proofs.SourceRows as sources
+use Rattle.loose_soundness.proofs.SourceRows.{IsSourceRow}
 use Rattle.function_laws.specs.Parts.{IsItem}
 use Rattle.function_laws.proofs.Arrays.{next_key, item_value_is}
 use Rattle.function_laws.proofs.Texts.{text_value, number_value}
@@ -68,7 +72,7 @@ module _ (flow : PlainFlow) (p : ℕ) (f : Slots) where
   -- what the sets of an array literal say of an array that is made so far
   record Made (ps : Pairs) : Type 0 where
     members_of : MembersIn (told_keys flow) (Def flow (at_point p)) (DefYes flow (at_point p)) ps
-    keys_are : KeysInAll (Def flow (at_point p) keys_of) ps
+    keys_are : KeysInAll (Def flow (at_point p) Keys) ps
     value : IsValue (array ps)
 
   module _ (items : List (Option PlainKeyRef × ℕ)) (st : SetsTo flow p (array_source items)) where
@@ -81,21 +85,21 @@ module _ (flow : PlainFlow) (p : ℕ) (f : Slots) where
         let o = covers_own told (Use flow v p) (UseYes flow v p) (f v) h.value.covers in
         record {
           members_of = members_put told (Def flow (at_point p)) (DefYes flow (at_point p)) a.key (f v) ps ((m.value).parts).0
-              (own_wider (Use flow v p (own text_half)) (Def flow (at_point p) (place told a.key text_half)) (UseYes flow v p (own array_half)) (DefYes flow (at_point p) (place told a.key array_half))
-              (by_place_told flow a.key text_half (λ b. (w : List ℕ) → Use flow v p (own text_half) w → Def flow (at_point p) b w)
-              (λ t. from_in flow p s (member a.key text_half) (use_of (own text_half) v p) st (SourceRow.array_member items k v a.key text_half c t (may_be_it f k a.key a.resolved)))
-              (λ n. from_in flow p s (others text_half) (use_of (own text_half) v p) st (SourceRow.array_other items k v text_half c (may_be_none f k a.key told a.resolved n))))
-              (by_place_told flow a.key array_half (λ b. UseYes flow v p (own array_half) → DefYes flow (at_point p) b)
-              (λ t. from_yes flow p s (member a.key array_half) (use_of (own array_half) v p) st (SourceRow.array_member items k v a.key array_half c t (may_be_it f k a.key a.resolved)))
-              (λ n. from_yes flow p s (others array_half) (use_of (own array_half) v p) st (SourceRow.array_other items k v array_half c (may_be_none f k a.key told a.resolved n))))
+              (own_wider (Use flow v p (Own half.Text)) (Def flow (at_point p) (place told a.key half.Text)) (UseYes flow v p (Own half.Array)) (DefYes flow (at_point p) (place told a.key half.Array))
+              (by_place_told flow a.key half.Text (λ b. (w : List ℕ) → Use flow v p (Own half.Text) w → Def flow (at_point p) b w)
+              (λ i t. from_in flow p s (Member i half.Text) (use_of (Own half.Text) v p) st (sources.array_member items k v i half.Text c t (may_be_it f k a.key a.resolved)))
+              (λ n. from_in flow p s (Others half.Text) (use_of (Own half.Text) v p) st (sources.array_other items k v half.Text c (may_be_none f k a.key told a.resolved n))))
+              (by_place_told flow a.key half.Array (λ b. UseYes flow v p (Own half.Array) → DefYes flow (at_point p) b)
+              (λ i t. from_yes flow p s (Member i half.Array) (use_of (Own half.Array) v p) st (sources.array_member items k v i half.Array c t (may_be_it f k a.key a.resolved)))
+              (λ n. from_yes flow p s (Others half.Array) (use_of (Own half.Array) v p) st (sources.array_other items k v half.Array c (may_be_none f k a.key told a.resolved n))))
               (f v) o)
-              (inside_wider (HasIn flow (all_of text_half v p)) (Def flow (at_point p) (others text_half)) (SaysIn flow (all_of array_half v p)) (DefYes flow (at_point p) (others array_half))
-              (from_in flow p s (others text_half) (all_of text_half v p) st (SourceRow.array_deep items k v text_half c))
-              (from_yes flow p s (others array_half) (all_of array_half v p) st (SourceRow.array_deep items k v array_half c)) (f v) (all_inside flow v p (f v) h.value.covers))
+              (inside_wider (HasIn flow (all_of half.Text v p)) (Def flow (at_point p) (Others half.Text)) (SaysIn flow (all_of half.Array v p)) (DefYes flow (at_point p) (Others half.Array))
+              (from_in flow p s (Others half.Text) (all_of half.Text v p) st (sources.array_deep items k v half.Text c))
+              (from_yes flow p s (Others half.Array) (all_of half.Array v p) st (sources.array_deep items k v half.Array c)) (f v) (all_inside flow v p (f v) h.value.covers))
               (but_for a.key told (Def flow (at_point p)) (Def flow (at_point p)) (DefYes flow (at_point p)) (DefYes flow (at_point p)) (λ j n w x. x) (λ j n x. x) (λ w x. x) (λ x. x) ps m.members_of);
-          keys_are = keys_put (Def flow (at_point p) keys_of) a.key (f v) ps
-              (key_text flow p f k a.key (λ g t. of_source flow p s keys_of g st (SourceRow.array_key items k v g c t)) h.key a.resolved)
-              (keys_wider (Use flow v p keys_of) (Def flow (at_point p) keys_of) (from_in flow p s keys_of (use_of keys_of v p) st (SourceRow.array_deep_key items k v c)) (f v)
+          keys_are = keys_put (Def flow (at_point p) Keys) a.key (f v) ps
+              (key_text flow p f k a.key (λ g t. of_source flow p s Keys g st (sources.array_key items k v g c t)) h.key a.resolved)
+              (keys_wider (Use flow v p Keys) (Def flow (at_point p) Keys) (from_in flow p s Keys (use_of Keys v p) st (sources.array_deep_key items k v c)) (f v)
               (covers_keys told (Use flow v p) (UseYes flow v p) (f v) h.value.covers))
               m.keys_are;
           value = subst IsValue a.is i;
@@ -109,7 +113,7 @@ module _ (flow : PlainFlow) (p : ℕ) (f : Slots) where
         → add_items (map (item_value f) rest) (array ps) ≡ Ok u → Lies flow (at_point p) u
     all_items [] ps u sub h m e =
         let is : u ≡ array ps = cc in
-        subst (Lies flow (at_point p)) (sym is) (record { covers = (yes_in flow p s (own array_half) st (SourceRow.array_array items), m.members_of, m.keys_are); value = m.value })
+        subst (Lies flow (at_point p)) (sym is) (record { covers = (yes_in flow p s (Own half.Array) st (sources.array_array items), m.members_of, m.keys_are); value = m.value })
     all_items ((k, v) ∷ rest) ps u sub h m e =
         by (λ qs. all_items rest qs u (λ item i. sub item (Contains-later (k, v) rest item i)) (All-tail ItemLies (k, v) rest h)) (add_item (array ps) (maybe_key_value f k) (f v)) refl e
       where

@@ -14,8 +14,12 @@ use Rattle.least_sets.specs.Forms.{Form}
 use Rattle.least_sets.specs.Sets.{In}
 use Rattle.loose_sets.specs.Reaching.{at_point}
 use Rattle.loose_sets.specs.Keys.{literal_key, is_among, may_be, may_be_other, is_exactly}
-use Rattle.loose_sets.specs.Names.{text_half, own, keys_of, Name, set_of, use_of}
-use Rattle.loose_sets.specs.Table.{Row, KeyText, of_integer, of_text, of_value, of_false, of_next}
+use Rattle.loose_sets.specs.declared.name.Aspect.TheVariants.{Own, Keys}
+use Rattle.loose_sets.specs.declared.name.Half.TheVariants as half
+use Rattle.loose_sets.specs.declared.name.SetName.{SetName}
+use Rattle.loose_soundness.proofs.Names.{set_of, use_of}
+use Rattle.loose_sets.specs.Table.{Row}
+use Rattle.loose_soundness.proofs.SourceRows.{IsKeyText, of_integer, of_text, of_value, of_false, of_next}
 use Rattle.plain_values.proofs.CanonicalLemmas.{spelled}
 use Rattle.plain_values.proofs.SameKeys.{same_itself, same_back}
 use Rattle.loose_soundness.proofs.Decimals.{integer_is, decimal_none, decimal_one}
@@ -29,7 +33,7 @@ pub data Resolved (f : Slots) : Option PlainKeyRef → PlainKey → Type 0 where
 same_result : (r : Result PlainKey Fault) (c d : PlainKey) → r ≡ Ok c → r ≡ Ok d → c ≡ d
 same_result r c d e h = cc
 
--- a literal comes to its own key
+-- a literal comes to its Own key
 pub literal_comes : (f : Slots) (k : PlainKeyRef) (c d : PlainKey) → literal_key k ≡ Some d → key_of (key_value f k) ≡ Ok c → c ≡ d
 unfolding literal_key key_value
 literal_comes f (int_ref z) c d l e = let is : d ≡ int_key z = cc in same_result (key_of (int z)) c (int_key z) e refl ∙ sym is
@@ -73,27 +77,27 @@ canonical_text t = by (canonical_integer t) refl
 -- its text is one of the texts that a key may have
 module _ (flow : PlainFlow) (p : ℕ) where
   abbrev Rows : Option PlainKeyRef → Type 0
-  Rows k = (g : Form Name) → KeyText p k g → Row flow (set_of keys_of (at_point p)) g
+  Rows k = (g : Form SetName) → IsKeyText p k g → Row flow (set_of Keys (at_point p)) g
 
-  value_text : (f : Slots) (y : ℕ) (v : Plain) (c : PlainKey) → Rows (Some (read_ref y)) → UseLies flow y p v → key_of v ≡ Ok c → Def flow (at_point p) keys_of (text_of (value_of_key c))
+  value_text : (f : Slots) (y : ℕ) (v : Plain) (c : PlainKey) → Rows (Some (read_ref y)) → UseLies flow y p v → key_of v ≡ Ok c → Def flow (at_point p) Keys (text_of (value_of_key c))
   value_text f y null c rows h e =
       let is : c ≡ text_key [] = sym (same_result (key_of null) (text_key []) c refl e) in
-      subst (λ c. Def flow (at_point p) keys_of (text_of (value_of_key c))) (sym is) (same_in flow _ (use_of (own text_half) y p) [] (rows _ (of_value y)) h.covers)
+      subst (λ c. Def flow (at_point p) Keys (text_of (value_of_key c))) (sym is) (same_in flow _ (use_of (Own half.Text) y p) [] (rows _ (of_value y)) h.covers)
   value_text f y (flag false) c rows h e =
       let is : c ≡ int_key (pos 0) = sym (same_result (key_of (flag false)) (int_key (pos 0)) c refl e) in
-      subst (λ c. Def flow (at_point p) keys_of (text_of (value_of_key c))) (sym is)
-      (subst (λ w. Def flow (at_point p) keys_of w) (sym decimal_none) (In.text (set_of keys_of (at_point p)) (48 ∷ []) (rows _ (of_false y))))
+      subst (λ c. Def flow (at_point p) Keys (text_of (value_of_key c))) (sym is)
+      (subst (λ w. Def flow (at_point p) Keys w) (sym decimal_none) (In.text (set_of Keys (at_point p)) (48 ∷ []) (rows _ (of_false y))))
   value_text f y (flag true) c rows h e =
       let is : c ≡ int_key (pos 1) = sym (same_result (key_of (flag true)) (int_key (pos 1)) c refl e) in
-      subst (λ c. Def flow (at_point p) keys_of (text_of (value_of_key c))) (sym is)
-      (subst (λ w. Def flow (at_point p) keys_of w) (sym decimal_one) (same_in flow _ (use_of (own text_half) y p) (49 ∷ []) (rows _ (of_value y)) h.covers))
+      subst (λ c. Def flow (at_point p) Keys (text_of (value_of_key c))) (sym is)
+      (subst (λ w. Def flow (at_point p) Keys w) (sym decimal_one) (same_in flow _ (use_of (Own half.Text) y p) (49 ∷ []) (rows _ (of_value y)) h.covers))
   value_text f y (int z) c rows h e =
       let is : c ≡ int_key z = sym (same_result (key_of (int z)) (int_key z) c refl e) in
-      subst (λ c. Def flow (at_point p) keys_of (text_of (value_of_key c))) (sym is) (same_in flow _ (use_of (own text_half) y p) (signed_decimal z) (rows _ (of_value y)) h.covers)
+      subst (λ c. Def flow (at_point p) Keys (text_of (value_of_key c))) (sym is) (same_in flow _ (use_of (Own half.Text) y p) (signed_decimal z) (rows _ (of_value y)) h.covers)
   value_text f y (text t) c rows h e =
       let is : c ≡ canonical_key t (canonical_integer t) = sym (same_result (key_of (text t)) (canonical_key t (canonical_integer t)) c refl e) in
-      subst (λ c. Def flow (at_point p) keys_of (text_of (value_of_key c))) (sym is)
-      (subst (λ w. Def flow (at_point p) keys_of w) (sym (canonical_text t)) (same_in flow _ (use_of (own text_half) y p) t (rows _ (of_value y)) h.covers))
+      subst (λ c. Def flow (at_point p) Keys (text_of (value_of_key c))) (sym is)
+      (subst (λ w. Def flow (at_point p) Keys w) (sym (canonical_text t)) (same_in flow _ (use_of (Own half.Text) y p) t (rows _ (of_value y)) h.covers))
   value_text f y (array ps) c rows h e = cc
 
   -- what a run holds in the slot of a key
@@ -101,12 +105,12 @@ module _ (flow : PlainFlow) (p : ℕ) where
   KeyLies f (Some (read_ref y)) = UseLies flow y p (f y)
   KeyLies f k = ⊤
 
-  pub key_text : (f : Slots) (k : Option PlainKeyRef) (c : PlainKey) → Rows k → KeyLies f k → Resolved f k c → Def flow (at_point p) keys_of (text_of (value_of_key c))
+  pub key_text : (f : Slots) (k : Option PlainKeyRef) (c : PlainKey) → Rows k → KeyLies f k → Resolved f k c → Def flow (at_point p) Keys (text_of (value_of_key c))
   unfolding key_value literal_key
   key_text f (Some (int_ref z)) _ rows h (by_key _ c e) =
-      subst (λ c. Def flow (at_point p) keys_of (text_of (value_of_key c))) (sym (literal_comes f (int_ref z) c (int_key z) refl e)) (In.text (set_of keys_of (at_point p)) (signed_decimal z) (rows _ (of_integer z)))
+      subst (λ c. Def flow (at_point p) Keys (text_of (value_of_key c))) (sym (literal_comes f (int_ref z) c (int_key z) refl e)) (In.text (set_of Keys (at_point p)) (signed_decimal z) (rows _ (of_integer z)))
   key_text f (Some (text_ref t)) _ rows h (by_key _ c e) =
-      subst (λ c. Def flow (at_point p) keys_of (text_of (value_of_key c))) (sym (literal_comes f (text_ref t) c (canonical_key t (canonical_integer t)) refl e))
-      (subst (λ w. Def flow (at_point p) keys_of w) (sym (canonical_text t)) (In.text (set_of keys_of (at_point p)) t (rows _ (of_text t))))
+      subst (λ c. Def flow (at_point p) Keys (text_of (value_of_key c))) (sym (literal_comes f (text_ref t) c (canonical_key t (canonical_integer t)) refl e))
+      (subst (λ w. Def flow (at_point p) Keys w) (sym (canonical_text t)) (In.text (set_of Keys (at_point p)) t (rows _ (of_text t))))
   key_text f (Some (read_ref y)) _ rows h (by_key _ c e) = value_text f y (f y) c rows h e
-  key_text f None _ rows h (by_next z i) = In.integer (set_of keys_of (at_point p)) (signed_decimal z) (rows _ of_next) (integer_is z i)
+  key_text f None _ rows h (by_next z i) = In.integer (set_of Keys (at_point p)) (signed_decimal z) (rows _ of_next) (integer_is z i)

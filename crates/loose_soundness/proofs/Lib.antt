@@ -1,3 +1,6 @@
+pub mod Names
+pub mod SourceRows
+pub mod Rows
 pub mod Covers
 pub mod Decimals
 pub mod Lying

@@ -40,8 +40,16 @@ use Rattle.least_sets.specs.Bytes.{Turns}
 use Rattle.least_sets.specs.Sets.{In, Byte, IsCircular}
 use Rattle.loose_sets.specs.Reaching.{at_point}
 use Rattle.loose_sets.specs.Keys.{told_keys}
-use Rattle.loose_sets.specs.Names.{text_half, array_half, own, member, others, keys_of, Name, set_of, use_of, input_of, output_of}
-use Rattle.loose_sets.specs.Table.{Row, SourceRow, SetsTo, Reads}
+use Rattle.loose_sets.specs.declared.name.Aspect.TheVariants.{Own, Member, Others, Keys}
+use Rattle.loose_sets.specs.declared.name.Half.TheVariants as half
+use Rattle.loose_sets.specs.declared.name.SetName.{SetName}
+use Rattle.loose_sets.specs.declared.name.SetName.TheVariants.{Output, Input}
+use Rattle.loose_soundness.proofs.Names.{set_of, use_of}
+use Rattle.loose_sets.specs.Table.{SetsTo, Row}
+use Rattle.loose_soundness.proofs.SourceRows as sources
+use Rattle.loose_soundness.proofs.SourceRows.{IsSourceRow}
+use Rattle.loose_soundness.proofs.Rows.{Reads}
+use Rattle.loose_soundness.proofs.Rows as rows
 use Rattle.function_laws.proofs.Texts.{within, within_value}
 use Rattle.loose_soundness.proofs.Covers.{MembersIn, KeysInAll, place}
 use Rattle.loose_soundness.proofs.Decimals.{integer_is}
@@ -50,7 +58,7 @@ use Rattle.loose_soundness.proofs.Simple.{yes_in, from_in}
 use Rattle.loose_soundness.proofs.Texts.{own_text_in, text_lies}
 
 -- the bytes of a set's texts
-pub bytes_in : (flow : PlainFlow) (a : Name) (w : List ℕ) → HasIn flow a w → (b : ℕ) → Contains w b → Byte (Row flow) IsText a b
+pub bytes_in : (flow : PlainFlow) (a : SetName) (w : List ℕ) → HasIn flow a w → (b : ℕ) → Contains w b → Byte (Row flow) IsText a b
 bytes_in flow _ _ (In.text a w row) b h = Byte.text a w b row h
 bytes_in flow _ _ (In.same a c w row i) b h = Byte.same a c b row (bytes_in flow c w i b h)
 bytes_in flow _ _ (In.join a c d u v row i j) b h =
@@ -79,13 +87,13 @@ module _ (flow : PlainFlow) (p : ℕ) (f : Slots) where
     abbrev s : PlainSource
     s = apply_source o from g args
 
-    result_lies : (u : Plain) (out : List ℕ) → u ≡ text out → IsValue u → HasIn flow (output_of p) out → Lies flow (at_point p) u
-    result_lies u out is h i = text_lies flow p u out is h (from_in flow p s (own text_half) (output_of p) st (SourceRow.apply o from g args) out i)
+    result_lies : (u : Plain) (out : List ℕ) → u ≡ text out → IsValue u → HasIn flow (Output p) out → Lies flow (at_point p) u
+    result_lies u out is h i = text_lies flow p u out is h (from_in flow p s (Own half.Text) (Output p) st (sources.apply o from g args) out i)
 
     related_lies : (u : Plain) (t out : List ℕ) → UseLies flow from p (f from) → as_text (f from) ≡ Ok t → Rel o t out → u ≡ text out → IsValue u → Lies flow (at_point p) u
     related_lies u t out h e r is v =
-        result_lies u out is v (In.apply (output_of p) (input_of p) o t out (Row.applied_output p from o g args st)
-        (same_in flow (input_of p) (use_of (own text_half) from p) t (Row.applied_input p from from o g args st (Reads.subject o from args)) (own_text_in flow from p (f from) t h e)) r)
+        result_lies u out is v (In.apply (Output p) (Input p) o t out (rows.applied_output p from o g args st)
+        (same_in flow (Input p) (use_of (Own half.Text) from p) t (rows.applied_input p from from o g args st (Reads.subject o from args)) (own_text_in flow from p (f from) t h e)) r)
 
     -- where the text of the slot is changed by a function
     by_text : (go : List ℕ → List ℕ) → ((t : List ℕ) → Rel o t (go t)) → (u : Plain) → UseLies flow from p (f from) → go_on (as_text (f from)) (λ t. within_length (go t)) ≡ Ok u → Lies flow (at_point p) u
@@ -135,19 +143,19 @@ module _ (flow : PlainFlow) (p : ℕ) (f : Slots) where
   unfolding Turns
   any_lies a b x st u hb hx e = by (as_text (f a)) e
     where
-      byte_in : (y : ℕ) (t : List ℕ) → Row flow (input_of p) (same_form (use_of (own text_half) y p)) → Use flow y p (own text_half) t → (c : ℕ) → Contains t c → Byte (Row flow) IsText (input_of p) c
-      byte_in y t row h c i = Byte.same (input_of p) (use_of (own text_half) y p) c row (bytes_in flow (use_of (own text_half) y p) t h c i)
+      byte_in : (y : ℕ) (t : List ℕ) → Row flow (Input p) (same_form (use_of (Own half.Text) y p)) → Use flow y p (Own half.Text) t → (c : ℕ) → Contains t c → Byte (Row flow) IsText (Input p) c
+      byte_in y t row h c i = Byte.same (Input p) (use_of (Own half.Text) y p) c row (bytes_in flow (use_of (Own half.Text) y p) t h c i)
 
       all_of : (P : ℕ → Type 0) (bs : List ℕ) → ((c : ℕ) → Contains bs c → P c) → All P bs
       all_of P [] h = All-nil P
       all_of P (b' ∷ bs) h = All-cons P b' bs (h b' (Contains-head b' bs)) (all_of P bs (λ c i. h c (Contains-later b' bs c i)))
 
-      each : (new t out : List ℕ) → as_text (f b) ≡ Ok new → as_text (f x) ≡ Ok t → ((c : ℕ) → Contains out c → Contains t c ⊎ Contains new c) → (c : ℕ) → Contains out c → Byte (Row flow) IsText (output_of p) c
+      each : (new t out : List ℕ) → as_text (f b) ≡ Ok new → as_text (f x) ≡ Ok t → ((c : ℕ) → Contains out c → Contains t c ⊎ Contains new c) → (c : ℕ) → Contains out c → Byte (Row flow) IsText (Output p) c
       each new t out i j from c has =
-          Byte.turned (output_of p) (input_of p) op.Any c c (Row.applied_output p x op.Any builtin.StrReplace (a ∷ b ∷ x ∷ []) st)
+          Byte.turned (Output p) (Input p) op.Any c c (rows.applied_output p x op.Any builtin.StrReplace (a ∷ b ∷ x ∷ []) st)
           (elim (from c has) [
-            | inl k ↦ byte_in x t (Row.applied_input p x x op.Any builtin.StrReplace (a ∷ b ∷ x ∷ []) st (Reads.subject op.Any x (a ∷ b ∷ x ∷ []))) (own_text_in flow x p (f x) t hx j) c k
-            | inr k ↦ byte_in b new (Row.applied_input p x b op.Any builtin.StrReplace (a ∷ b ∷ x ∷ []) st (Reads.replacement x a b x)) (own_text_in flow b p (f b) new hb i) c k
+            | inl k ↦ byte_in x t (rows.applied_input p x x op.Any builtin.StrReplace (a ∷ b ∷ x ∷ []) st (Reads.subject op.Any x (a ∷ b ∷ x ∷ []))) (own_text_in flow x p (f x) t hx j) c k
+            | inr k ↦ byte_in b new (rows.applied_input p x b op.Any builtin.StrReplace (a ∷ b ∷ x ∷ []) st (Reads.replacement x a b x)) (own_text_in flow b p (f b) new hb i) c k
           ]) refl
 
       made : (old new t : List ℕ) → as_text (f b) ≡ Ok new → as_text (f x) ≡ Ok t → within_length (replaced_text old new t) ≡ Ok u → Lies flow (at_point p) u
@@ -155,8 +163,8 @@ module _ (flow : PlainFlow) (p : ℕ) (f : Slots) where
           let w = within (replaced_text old new t) u g in
           let out = replaced_text old new t in
           result_lies op.Any x builtin.StrReplace (a ∷ b ∷ x ∷ []) st u out w.0 (within_value out u g)
-          (In.over_bytes (output_of p) (input_of p) op.Any out (Row.applied_output p x op.Any builtin.StrReplace (a ∷ b ∷ x ∷ []) st) (IsCircular.any (output_of p) (input_of p))
-          (all_of (Byte (Row flow) IsText (output_of p)) out (each new t out i j (Contains-replaced_text old new t))))
+          (In.over_bytes (Output p) (Input p) op.Any out (rows.applied_output p x op.Any builtin.StrReplace (a ∷ b ∷ x ∷ []) st) (IsCircular.any (Output p) (Input p))
+          (all_of (Byte (Row flow) IsText (Output p)) out (each new t out i j (Contains-replaced_text old new t))))
 
       by_text' : (old new : List ℕ) → as_text (f b) ≡ Ok new → (r : Result (List ℕ) Fault) → as_text (f x) ≡ r → go_on r (λ t. within_length (replaced_text old new t)) ≡ Ok u → Lies flow (at_point p) u
       by_text' old new i (Err fault) j g = cc
@@ -201,21 +209,21 @@ module _ (flow : PlainFlow) (p : ℕ) (f : Slots) where
     abbrev split : PlainSource
     split = explode_source o from g args
 
-    piece_place : (n : ℕ) (t : List ℕ) → HasIn flow (output_of p) t → Def flow (at_point p) (place (told_keys flow) (int_key (pos n)) text_half) t
-    piece_place n t h = by_place flow (int_key (pos n)) text_half (λ a. Def flow (at_point p) a t)
-        (λ c. from_in flow p split (member (int_key (pos n)) text_half) (output_of p) st (SourceRow.explode_member o from g args (int_key (pos n)) c refl) t h)
-        (from_in flow p split (others text_half) (output_of p) st (SourceRow.explode_other o from g args) t h)
+    piece_place : (n : ℕ) (t : List ℕ) → HasIn flow (Output p) t → Def flow (at_point p) (place (told_keys flow) (int_key (pos n)) half.Text) t
+    piece_place n t h = by_place flow (int_key (pos n)) half.Text (λ a. Def flow (at_point p) a t)
+        (λ i c. from_in flow p split (Member i half.Text) (Output p) st (sources.explode_member o from g args i c refl) t h)
+        (from_in flow p split (Others half.Text) (Output p) st (sources.explode_other o from g args) t h)
 
-    pieces_in : (n : ℕ) (ts : List (List ℕ)) → ((t : List ℕ) → Contains ts t → HasIn flow (output_of p) t) → MembersIn (told_keys flow) (Def flow (at_point p)) (DefYes flow (at_point p)) (numbered_from n ts)
+    pieces_in : (n : ℕ) (ts : List (List ℕ)) → ((t : List ℕ) → Contains ts t → HasIn flow (Output p) t) → MembersIn (told_keys flow) (Def flow (at_point p)) (DefYes flow (at_point p)) (numbered_from n ts)
     pieces_in n [] h = tt
     pieces_in n (t ∷ ts) h = (piece_place n t (h t (Contains-head t ts)), tt, pieces_in (n + 1) ts (λ u i. h u (Contains-later t ts u i)))
 
-    piece_keys : (n : ℕ) (ts : List (List ℕ)) → PairsHaveValues (numbered_from n ts) → KeysInAll (Def flow (at_point p) keys_of) (numbered_from n ts)
+    piece_keys : (n : ℕ) (ts : List (List ℕ)) → PairsHaveValues (numbered_from n ts) → KeysInAll (Def flow (at_point p) Keys) (numbered_from n ts)
     piece_keys n [] h = tt
     piece_keys n (t ∷ ts) h =
-        (In.integer (set_of keys_of (at_point p)) _ (of_source flow p split keys_of integer_form st (SourceRow.explode_key o from g args)) (integer_is (pos n) h.0), tt, piece_keys (n + 1) ts h.2)
+        (In.integer (set_of Keys (at_point p)) _ (of_source flow p split Keys integer_form st (sources.explode_key o from g args)) (integer_is (pos n) h.0), tt, piece_keys (n + 1) ts h.2)
 
-    split_lies : (sep t : List ℕ) (u : Plain) → ((piece : List ℕ) → Contains (pieces_of sep t) piece → Rel o t piece) → Use flow from p (own text_half) t → IsValue u → pieces_at sep t ≡ Ok u → Lies flow (at_point p) u
+    split_lies : (sep t : List ℕ) (u : Plain) → ((piece : List ℕ) → Contains (pieces_of sep t) piece → Rel o t piece) → Use flow from p (Own half.Text) t → IsValue u → pieces_at sep t ≡ Ok u → Lies flow (at_point p) u
     split_lies [] t u rel h v e = cc
     split_lies (b ∷ sep) t u rel h v e =
         let ts = pieces_of (b ∷ sep) t in
@@ -223,8 +231,8 @@ module _ (flow : PlainFlow) (p : ℕ) (f : Slots) where
         let v' : IsValue (array (numbered_from 0 ts)) = subst IsValue is v in
         subst (Lies flow (at_point p)) (sym is) (record {
           covers = (
-            yes_in flow p split (own array_half) st (SourceRow.explode_array o from g args),
-            pieces_in 0 ts (λ piece i. In.apply (output_of p) (input_of p) o t piece (Row.split_output p from o g args st) (same_in flow (input_of p) (use_of (own text_half) from p) t (Row.split_input p from o g args st) h) (rel piece i)),
+            yes_in flow p split (Own half.Array) st (sources.explode_array o from g args),
+            pieces_in 0 ts (λ piece i. In.apply (Output p) (Input p) o t piece (rows.split_output p from o g args st) (same_in flow (Input p) (use_of (Own half.Text) from p) t (rows.split_input p from o g args st) h) (rel piece i)),
             piece_keys 0 ts (v'.parts).1,
           );
           value = v';

@@ -20,8 +20,12 @@ use Rattle.flow_code.specs.Lawful.{IsMaybeKey}
 use Rattle.flow_code.specs.Runs.{Slots, key_value, maybe_key_value}
 use Rattle.loose_sets.specs.Reaching.{at_point}
 use Rattle.loose_sets.specs.Keys.{told_keys}
-use Rattle.loose_sets.specs.Names.{text_half, array_half, own, member, others, keys_of, use_of, all_of}
-use Rattle.loose_sets.specs.Table.{SourceRow, SetsTo}
+use Rattle.loose_sets.specs.declared.name.Aspect.TheVariants.{Own, Member, Others, Keys}
+use Rattle.loose_sets.specs.declared.name.Half.TheVariants as half
+use Rattle.loose_soundness.proofs.Names.{use_of, all_of}
+use Rattle.loose_sets.specs.Table.{SetsTo}
+use Rattle.loose_soundness.proofs.SourceRows as sources
+use Rattle.loose_soundness.proofs.SourceRows.{IsSourceRow}
 use Rattle.function_laws.specs.Parts.{IsMaybeValue}
 use Rattle.function_laws.proofs.Arrays.{next_key, path_steps, write_value, member_has}
 use Rattle.loose_soundness.proofs.Covers.{Texts, OwnIn, InsideIn, AllIn, KeysIn, KeysInAll, MembersIn, Covers, place, own_wider, inside_wider, keys_wider, all_keys_wider, covers_own, covers_keys, members_put, but_for, keys_put, all_put, member_inside, member_inside_all, member_keys}
@@ -98,10 +102,10 @@ put_is f k s change old u h e = by_container (container old) refl e
     by_container (Err fault) i g = cc
     by_container (Ok ps) i g = by_key' ps i (named_key s (key_after (largest_key ps))) refl g
 
--- the pairs of what is written into: its own, or none
+-- the pairs of what is written into: its Own, or none
 record Container (flow : PlainFlow) (x p : ℕ) (ps : Pairs) : Type 0 where
   members_of : MembersIn (told_keys flow) (Use flow x p) (UseYes flow x p) ps
-  keys_are : KeysInAll (Use flow x p keys_of) ps
+  keys_are : KeysInAll (Use flow x p Keys) ps
   distinct : are_distinct (keys ps) ≡ true
   values : PairsHaveValues ps
 
@@ -114,7 +118,7 @@ contained flow x p (array qs) ps h e =
     let is : ps ≡ qs = cc in
     subst (Container flow x p) (sym is) (record { members_of = h.covers.1; keys_are = h.covers.2; distinct = ((h.value).parts).0; values = ((h.value).parts).1 })
 
--- a write below the first key leaves an array, whose members and keys are old ones, the new value with its own, and arrays
+-- a write below the first key leaves an array, whose members and keys are old ones, the new value with its Own, and arrays
 deep_own : (f : Slots) (T : Texts) (A : Type 0) (k : Option PlainKeyRef) (ks : List (Option PlainKeyRef)) (path : List Step) (new old u : Plain) → A → StepsOf f (k ∷ ks) path → put_in path new old ≡ Ok u → OwnIn T A u
 deep_own f T A k ks path new old u a (more _ _ s ss h rest) e = let q = put_is f k s (put_in ss new) old u h e in subst (OwnIn T A) (sym q.is) a
 
@@ -159,53 +163,53 @@ module _ (flow : PlainFlow) (p : ℕ) (f : Slots) (x v : ℕ) where
     abbrev s : PlainSource
     s = put_source x (k ∷ ks) v
 
-    old_other : (w : List ℕ) → Use flow x p (others text_half) w → Def flow (at_point p) (others text_half) w
-    old_other = from_in flow p s (others text_half) (use_of (others text_half) x p) st (SourceRow.put_old x v k ks text_half)
+    old_other : (w : List ℕ) → Use flow x p (Others half.Text) w → Def flow (at_point p) (Others half.Text) w
+    old_other = from_in flow p s (Others half.Text) (use_of (Others half.Text) x p) st (sources.put_old x v k ks half.Text)
 
-    old_other_yes : UseYes flow x p (others array_half) → DefYes flow (at_point p) (others array_half)
-    old_other_yes = from_yes flow p s (others array_half) (use_of (others array_half) x p) st (SourceRow.put_old x v k ks array_half)
+    old_other_yes : UseYes flow x p (Others half.Array) → DefYes flow (at_point p) (Others half.Array)
+    old_other_yes = from_yes flow p s (Others half.Array) (use_of (Others half.Array) x p) st (sources.put_old x v k ks half.Array)
 
-    old_keys : (ps : Pairs) → KeysInAll (Use flow x p keys_of) ps → KeysInAll (Def flow (at_point p) keys_of) ps
-    old_keys ps h = all_keys_wider (Use flow x p keys_of) (Def flow (at_point p) keys_of) (from_in flow p s keys_of (use_of keys_of x p) st (SourceRow.put_old_key x v k ks)) ps h
+    old_keys : (ps : Pairs) → KeysInAll (Use flow x p Keys) ps → KeysInAll (Def flow (at_point p) Keys) ps
+    old_keys ps h = all_keys_wider (Use flow x p Keys) (Def flow (at_point p) Keys) (from_in flow p s Keys (use_of Keys x p) st (sources.put_old_key x v k ks)) ps h
 
-    old_key : (u : Plain) → KeysIn (Use flow x p keys_of) u → KeysIn (Def flow (at_point p) keys_of) u
-    old_key u h = keys_wider (Use flow x p keys_of) (Def flow (at_point p) keys_of) (from_in flow p s keys_of (use_of keys_of x p) st (SourceRow.put_old_key x v k ks)) u h
+    old_key : (u : Plain) → KeysIn (Use flow x p Keys) u → KeysIn (Def flow (at_point p) Keys) u
+    old_key u h = keys_wider (Use flow x p Keys) (Def flow (at_point p) Keys) (from_in flow p s Keys (use_of Keys x p) st (sources.put_old_key x v k ks)) u h
 
-    new_inside : UseLies flow v p (f v) → InsideIn (Def flow (at_point p) (others text_half)) (DefYes flow (at_point p) (others array_half)) (f v)
-    new_inside h = inside_wider (HasIn flow (all_of text_half v p)) (Def flow (at_point p) (others text_half)) (SaysIn flow (all_of array_half v p)) (DefYes flow (at_point p) (others array_half))
-        (from_in flow p s (others text_half) (all_of text_half v p) st (SourceRow.put_deep x v k ks text_half))
-        (from_yes flow p s (others array_half) (all_of array_half v p) st (SourceRow.put_deep x v k ks array_half)) (f v) (all_inside flow v p (f v) h.covers)
+    new_inside : UseLies flow v p (f v) → InsideIn (Def flow (at_point p) (Others half.Text)) (DefYes flow (at_point p) (Others half.Array)) (f v)
+    new_inside h = inside_wider (HasIn flow (all_of half.Text v p)) (Def flow (at_point p) (Others half.Text)) (SaysIn flow (all_of half.Array v p)) (DefYes flow (at_point p) (Others half.Array))
+        (from_in flow p s (Others half.Text) (all_of half.Text v p) st (sources.put_deep x v k ks half.Text))
+        (from_yes flow p s (Others half.Array) (all_of half.Array v p) st (sources.put_deep x v k ks half.Array)) (f v) (all_inside flow v p (f v) h.covers)
 
-    new_keys : UseLies flow v p (f v) → KeysIn (Def flow (at_point p) keys_of) (f v)
-    new_keys h = keys_wider (Use flow v p keys_of) (Def flow (at_point p) keys_of) (from_in flow p s keys_of (use_of keys_of v p) st (SourceRow.put_deep_key x v k ks)) (f v)
+    new_keys : UseLies flow v p (f v) → KeysIn (Def flow (at_point p) Keys) (f v)
+    new_keys h = keys_wider (Use flow v p Keys) (Def flow (at_point p) Keys) (from_in flow p s Keys (use_of Keys v p) st (sources.put_deep_key x v k ks)) (f v)
         (covers_keys told (Use flow v p) (UseYes flow v p) (f v) h.covers)
 
-    path_keys : ((j : Option PlainKeyRef) → Contains (k ∷ ks) j → KeyLies flow p f j) → AreKeys f (Def flow (at_point p) keys_of) (k ∷ ks)
-    path_keys h j c i r = key_text flow p f j c (λ g t. of_source flow p s keys_of g st (SourceRow.put_key x v (k ∷ ks) j g i t)) (h j i) r
+    path_keys : ((j : Option PlainKeyRef) → Contains (k ∷ ks) j → KeyLies flow p f j) → AreKeys f (Def flow (at_point p) Keys) (k ∷ ks)
+    path_keys h j c i r = key_text flow p f j c (λ g t. of_source flow p s Keys g st (sources.put_key x v k ks j g i t)) (h j i) r
 
   -- under one key
   module _ (k : Option PlainKeyRef) (st : SetsTo flow p (put_source x (k ∷ []) v)) where
     abbrev one : PlainSource
     one = put_source x (k ∷ []) v
 
-    kept_text : (c : PlainKey) → Resolved f k c → (j : PlainKey) → same_key j c ≡ false → (w : List ℕ) → Use flow x p (place told j text_half) w → Def flow (at_point p) (place told j text_half) w
-    kept_text c r j n = by_place flow j text_half (λ a. (w : List ℕ) → Use flow x p a w → Def flow (at_point p) a w)
-        (λ t. from_in flow p one (member j text_half) (use_of (member j text_half) x p) st (SourceRow.put_kept x v k j text_half t (not_exactly f k c j r n)))
+    kept_text : (c : PlainKey) → Resolved f k c → (j : PlainKey) → same_key j c ≡ false → (w : List ℕ) → Use flow x p (place told j half.Text) w → Def flow (at_point p) (place told j half.Text) w
+    kept_text c r j n = by_place flow j half.Text (λ a. (w : List ℕ) → Use flow x p a w → Def flow (at_point p) a w)
+        (λ i t. from_in flow p one (Member i half.Text) (use_of (Member i half.Text) x p) st (sources.put_kept x v k i half.Text t (not_exactly f k c j r n)))
         (old_other k [] st)
 
-    kept_yes : (c : PlainKey) → Resolved f k c → (j : PlainKey) → same_key j c ≡ false → UseYes flow x p (place told j array_half) → DefYes flow (at_point p) (place told j array_half)
-    kept_yes c r j n = by_place flow j array_half (λ a. UseYes flow x p a → DefYes flow (at_point p) a)
-        (λ t. from_yes flow p one (member j array_half) (use_of (member j array_half) x p) st (SourceRow.put_kept x v k j array_half t (not_exactly f k c j r n)))
+    kept_yes : (c : PlainKey) → Resolved f k c → (j : PlainKey) → same_key j c ≡ false → UseYes flow x p (place told j half.Array) → DefYes flow (at_point p) (place told j half.Array)
+    kept_yes c r j n = by_place flow j half.Array (λ a. UseYes flow x p a → DefYes flow (at_point p) a)
+        (λ i t. from_yes flow p one (Member i half.Array) (use_of (Member i half.Array) x p) st (sources.put_kept x v k i half.Array t (not_exactly f k c j r n)))
         (old_other_yes k [] st)
 
-    new_own : (c : PlainKey) → Resolved f k c → UseLies flow v p (f v) → OwnIn (Def flow (at_point p) (place told c text_half)) (DefYes flow (at_point p) (place told c array_half)) (f v)
-    new_own c r h = own_wider (Use flow v p (own text_half)) (Def flow (at_point p) (place told c text_half)) (UseYes flow v p (own array_half)) (DefYes flow (at_point p) (place told c array_half))
-        (by_place_told flow c text_half (λ b. (w : List ℕ) → Use flow v p (own text_half) w → Def flow (at_point p) b w)
-        (λ t. from_in flow p one (member c text_half) (use_of (own text_half) v p) st (SourceRow.put_new x v k c text_half t (may_be_it f k c r)))
-        (λ n. from_in flow p one (others text_half) (use_of (own text_half) v p) st (SourceRow.put_other x v k text_half (may_be_none f k c told r n))))
-        (by_place_told flow c array_half (λ b. UseYes flow v p (own array_half) → DefYes flow (at_point p) b)
-        (λ t. from_yes flow p one (member c array_half) (use_of (own array_half) v p) st (SourceRow.put_new x v k c array_half t (may_be_it f k c r)))
-        (λ n. from_yes flow p one (others array_half) (use_of (own array_half) v p) st (SourceRow.put_other x v k array_half (may_be_none f k c told r n))))
+    new_own : (c : PlainKey) → Resolved f k c → UseLies flow v p (f v) → OwnIn (Def flow (at_point p) (place told c half.Text)) (DefYes flow (at_point p) (place told c half.Array)) (f v)
+    new_own c r h = own_wider (Use flow v p (Own half.Text)) (Def flow (at_point p) (place told c half.Text)) (UseYes flow v p (Own half.Array)) (DefYes flow (at_point p) (place told c half.Array))
+        (by_place_told flow c half.Text (λ b. (w : List ℕ) → Use flow v p (Own half.Text) w → Def flow (at_point p) b w)
+        (λ i t. from_in flow p one (Member i half.Text) (use_of (Own half.Text) v p) st (sources.put_new x v k i half.Text t (may_be_it f k c r)))
+        (λ n. from_in flow p one (Others half.Text) (use_of (Own half.Text) v p) st (sources.put_other x v k half.Text (may_be_none f k c told r n))))
+        (by_place_told flow c half.Array (λ b. UseYes flow v p (Own half.Array) → DefYes flow (at_point p) b)
+        (λ i t. from_yes flow p one (Member i half.Array) (use_of (Own half.Array) v p) st (sources.put_new x v k i half.Array t (may_be_it f k c r)))
+        (λ n. from_yes flow p one (Others half.Array) (use_of (Own half.Array) v p) st (sources.put_other x v k half.Array (may_be_none f k c told r n))))
         (f v) (covers_own told (Use flow v p) (UseYes flow v p) (f v) h.covers)
 
     put_one : (s : Step) (u : Plain) → StepOf f k s → ((j : Option PlainKeyRef) → Contains (k ∷ []) j → KeyLies flow p f j) → UseLies flow x p (f x) → UseLies flow v p (f v)
@@ -216,10 +220,10 @@ module _ (flow : PlainFlow) (p : ℕ) (f : Slots) (x v : ℕ) where
         let r = q.resolved c.values in
         let is : q.changed ≡ f v = same_value q.changed q.change_is in
         subst (Covers told (Def flow (at_point p)) (DefYes flow (at_point p))) (sym (q.is ∙ ap (λ new. array (put_pair q.pairs q.key new)) is)) (
-          yes_in flow p one (own array_half) st (SourceRow.put_array x v k []),
+          yes_in flow p one (Own half.Array) st (sources.put_array x v k []),
           members_put told (Def flow (at_point p)) (DefYes flow (at_point p)) q.key (f v) q.pairs c.distinct (new_own q.key r hv) (new_inside k [] st hv)
               (but_for q.key told (Use flow x p) (Def flow (at_point p)) (UseYes flow x p) (DefYes flow (at_point p)) (kept_text q.key r) (kept_yes q.key r) (old_other k [] st) (old_other_yes k [] st) q.pairs c.members_of),
-          keys_put (Def flow (at_point p) keys_of) q.key (f v) q.pairs (path_keys k [] st kl k q.key (Contains-head k []) r) (new_keys k [] st hv) (old_keys k [] st q.pairs c.keys_are),
+          keys_put (Def flow (at_point p) Keys) q.key (f v) q.pairs (path_keys k [] st kl k q.key (Contains-head k []) r) (new_keys k [] st hv) (old_keys k [] st q.pairs c.keys_are),
         )
       where
         same_value : (new : Plain) → put_in [] (f v) (members.member (put_is f k s (put_in [] (f v)) (f x) u h e).pairs (put_is f k s (put_in [] (f v)) (f x) u h e).key) ≡ Ok new → new ≡ f v
@@ -230,25 +234,25 @@ module _ (flow : PlainFlow) (p : ℕ) (f : Slots) (x v : ℕ) where
     abbrev deep : PlainSource
     deep = put_source x (k ∷ j ∷ ks) v
 
-    stays_text : (i : PlainKey) (w : List ℕ) → Use flow x p (place told i text_half) w → Def flow (at_point p) (place told i text_half) w
-    stays_text i = by_place flow i text_half (λ a. (w : List ℕ) → Use flow x p a w → Def flow (at_point p) a w)
-        (λ t. from_in flow p deep (member i text_half) (use_of (member i text_half) x p) st (SourceRow.put_member x v k j ks i text_half t)) (old_other k (j ∷ ks) st)
+    stays_text : (i : PlainKey) (w : List ℕ) → Use flow x p (place told i half.Text) w → Def flow (at_point p) (place told i half.Text) w
+    stays_text i = by_place flow i half.Text (λ a. (w : List ℕ) → Use flow x p a w → Def flow (at_point p) a w)
+        (λ n t. from_in flow p deep (Member n half.Text) (use_of (Member n half.Text) x p) st (sources.put_member x v k j ks n half.Text)) (old_other k (j ∷ ks) st)
 
-    stays_yes : (i : PlainKey) → UseYes flow x p (place told i array_half) → DefYes flow (at_point p) (place told i array_half)
-    stays_yes i = by_place flow i array_half (λ a. UseYes flow x p a → DefYes flow (at_point p) a)
-        (λ t. from_yes flow p deep (member i array_half) (use_of (member i array_half) x p) st (SourceRow.put_member x v k j ks i array_half t)) (old_other_yes k (j ∷ ks) st)
+    stays_yes : (i : PlainKey) → UseYes flow x p (place told i half.Array) → DefYes flow (at_point p) (place told i half.Array)
+    stays_yes i = by_place flow i half.Array (λ a. UseYes flow x p a → DefYes flow (at_point p) a)
+        (λ n t. from_yes flow p deep (Member n half.Array) (use_of (Member n half.Array) x p) st (sources.put_member x v k j ks n half.Array)) (old_other_yes k (j ∷ ks) st)
 
-    within_yes : DefYes flow (at_point p) (others array_half)
-    within_yes = yes_in flow p deep (others array_half) st (SourceRow.put_within_array x v k j ks)
+    within_yes : DefYes flow (at_point p) (Others half.Array)
+    within_yes = yes_in flow p deep (Others half.Array) st (sources.put_within_array x v k j ks)
 
-    array_there : (c : PlainKey) → Resolved f k c → DefYes flow (at_point p) (place told c array_half)
-    array_there c r = by_place flow c array_half (λ a. DefYes flow (at_point p) a)
-        (λ t. yes_in flow p deep (member c array_half) st (SourceRow.put_member_array x v k j ks c t (may_be_it f k c r))) within_yes
+    array_there : (c : PlainKey) → Resolved f k c → DefYes flow (at_point p) (place told c half.Array)
+    array_there c r = by_place flow c half.Array (λ a. DefYes flow (at_point p) a)
+        (λ i t. yes_in flow p deep (Member i half.Array) st (sources.put_member_array x v k j ks i t (may_be_it f k c r))) within_yes
 
-    within_own : UseLies flow v p (f v) → OwnIn (Def flow (at_point p) (others text_half)) (DefYes flow (at_point p) (others array_half)) (f v)
-    within_own h = own_wider (Use flow v p (own text_half)) (Def flow (at_point p) (others text_half)) (UseYes flow v p (own array_half)) (DefYes flow (at_point p) (others array_half))
-        (from_in flow p deep (others text_half) (use_of (own text_half) v p) st (SourceRow.put_within x v k j ks text_half))
-        (from_yes flow p deep (others array_half) (use_of (own array_half) v p) st (SourceRow.put_within x v k j ks array_half))
+    within_own : UseLies flow v p (f v) → OwnIn (Def flow (at_point p) (Others half.Text)) (DefYes flow (at_point p) (Others half.Array)) (f v)
+    within_own h = own_wider (Use flow v p (Own half.Text)) (Def flow (at_point p) (Others half.Text)) (UseYes flow v p (Own half.Array)) (DefYes flow (at_point p) (Others half.Array))
+        (from_in flow p deep (Others half.Text) (use_of (Own half.Text) v p) st (sources.put_within x v k j ks half.Text))
+        (from_yes flow p deep (Others half.Array) (use_of (Own half.Array) v p) st (sources.put_within x v k j ks half.Array))
         (f v) (covers_own told (Use flow v p) (UseYes flow v p) (f v) h.covers)
 
     put_more : (s : Step) (ss : List Step) (u : Plain) → StepOf f k s → StepsOf f (j ∷ ks) ss → ((i : Option PlainKeyRef) → Contains (k ∷ j ∷ ks) i → KeyLies flow p f i) → UseLies flow x p (f x) → UseLies flow v p (f v)
@@ -257,18 +261,18 @@ module _ (flow : PlainFlow) (p : ℕ) (f : Slots) (x v : ℕ) where
         let q = put_is f k s (put_in ss (f v)) (f x) u h e in
         let c = contained flow x p (f x) q.pairs hx q.inside in
         let r = q.resolved c.values in
-        let T = Def flow (at_point p) (others text_half) in
-        let A = DefYes flow (at_point p) (others array_half) in
+        let T = Def flow (at_point p) (Others half.Text) in
+        let A = DefYes flow (at_point p) (Others half.Array) in
         let old = members.member q.pairs q.key in
         let inner = deep_inside f T A (j ∷ ks) ss (f v) old q.changed within_yes (within_own hv) (new_inside k (j ∷ ks) st hv)
-        (inside_wider (Use flow x p (others text_half)) T (UseYes flow x p (others array_half)) A (old_other k (j ∷ ks) st) (old_other_yes k (j ∷ ks) st) old (member_inside told (Use flow x p) (UseYes flow x p) q.key q.pairs c.members_of)) rest q.change_is in
-        let K = Def flow (at_point p) keys_of in
+        (inside_wider (Use flow x p (Others half.Text)) T (UseYes flow x p (Others half.Array)) A (old_other k (j ∷ ks) st) (old_other_yes k (j ∷ ks) st) old (member_inside told (Use flow x p) (UseYes flow x p) q.key q.pairs c.members_of)) rest q.change_is in
+        let K = Def flow (at_point p) Keys in
         let keys_in = deep_keys f K (j ∷ ks) ss (f v) old q.changed (λ i d has. path_keys k (j ∷ ks) st kl i d (Contains-later k (j ∷ ks) i has)) (new_keys k (j ∷ ks) st hv)
-        (old_key k (j ∷ ks) st old (member_keys (Use flow x p keys_of) q.key q.pairs c.keys_are)) (member_has q.pairs q.key c.values) rest q.change_is in
+        (old_key k (j ∷ ks) st old (member_keys (Use flow x p Keys) q.key q.pairs c.keys_are)) (member_has q.pairs q.key c.values) rest q.change_is in
         subst (Covers told (Def flow (at_point p)) (DefYes flow (at_point p))) (sym q.is) (
-          yes_in flow p deep (own array_half) st (SourceRow.put_array x v k (j ∷ ks)),
+          yes_in flow p deep (Own half.Array) st (sources.put_array x v k (j ∷ ks)),
           members_put told (Def flow (at_point p)) (DefYes flow (at_point p)) q.key q.changed q.pairs c.distinct
-              (deep_own f (Def flow (at_point p) (place told q.key text_half)) (DefYes flow (at_point p) (place told q.key array_half)) j ks ss (f v) old q.changed (array_there q.key r) rest q.change_is) inner.1
+              (deep_own f (Def flow (at_point p) (place told q.key half.Text)) (DefYes flow (at_point p) (place told q.key half.Array)) j ks ss (f v) old q.changed (array_there q.key r) rest q.change_is) inner.1
               (but_for q.key told (Use flow x p) (Def flow (at_point p)) (UseYes flow x p) (DefYes flow (at_point p)) (λ i n. stays_text i) (λ i n. stays_yes i) (old_other k (j ∷ ks) st) (old_other_yes k (j ∷ ks) st) q.pairs c.members_of),
           keys_put K q.key q.changed q.pairs (path_keys k (j ∷ ks) st kl k q.key (Contains-head k (j ∷ ks)) r) keys_in (old_keys k (j ∷ ks) st q.pairs c.keys_are),
         )

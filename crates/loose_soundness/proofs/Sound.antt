@@ -16,8 +16,16 @@ use Rattle.flow_code.specs.Runs as runs
 use Rattle.least_sets.specs.Sets.{In}
 use Rattle.loose_sets.specs.Reaching.{at_point, at_entry, Reaches}
 use Rattle.loose_sets.specs.Keys.{told_keys}
-use Rattle.loose_sets.specs.Names.{text_half, own, Leaving, by_return, by_exit, set_of, use_of, result_of, shown_at, out_of}
-use Rattle.loose_sets.specs.Table.{Row, SetsTo, IsArgument, PrintsNothing}
+use Rattle.loose_sets.specs.declared.name.Aspect.TheVariants.{Own}
+use Rattle.loose_sets.specs.declared.name.Half.TheVariants as half
+use Rattle.loose_sets.specs.declared.name.Leaving.{Leaving}
+use Rattle.loose_sets.specs.declared.name.Leaving.TheVariants.{Return, Exit}
+use Rattle.loose_sets.specs.declared.name.SetName.TheVariants.{Out, Result}
+use Rattle.loose_soundness.proofs.Names.{set_of, use_of, shown_at}
+use Rattle.loose_sets.specs.Table.{SetsTo}
+use Rattle.loose_sets.specs.Functions.{IsArgument}
+use Rattle.loose_soundness.proofs.Rows.{PrintsNothing}
+use Rattle.loose_soundness.proofs.Rows as rows
 use Rattle.loose_sets.specs.Loose.{Loose}
 use Rattle.function_laws.proofs.Functions.{exploded_value}
 use Rattle.builtin_meaning.specs.declared.builtin.Builtin.{Builtin}
@@ -97,7 +105,7 @@ module _ (flow : PlainFlow) (r : PlainRequest) (admitted : Admitted r) (p : ℕ)
 
 -- the results of a function
 pub record ResultLies (flow : PlainFlow) (n : ℕ) (v : Plain) : Type 0 where
-  pub covers : Covers (told_keys flow) (λ a w. HasIn flow (result_of a n) w) (λ a. SaysIn flow (result_of a n)) v
+  pub covers : Covers (told_keys flow) (λ a w. HasIn flow (Result a n) w) (λ a. SaysIn flow (Result a n)) v
   pub value : IsValue v
 
 abbrev EndLies : PlainFlow → ℕ → FlowEnd → Type 0
@@ -105,11 +113,11 @@ EndLies flow n (returned v) = ResultLies flow n v
 EndLies flow n exited = ⊤
 
 abbrev pub leaving : FlowEnd → Leaving
-leaving (returned v) = by_return
-leaving exited = by_exit
+leaving (returned v) = Return
+leaving exited = Exit
 
 pub record Sound (flow : PlainFlow) (n p : ℕ) (w : List ℕ) (end : FlowEnd) : Type 0 where
-  pub printed : HasIn flow (out_of p (leaving end)) w
+  pub printed : HasIn flow (Out p (leaving end)) w
   pub result : EndLies flow n end
 
 -- what a function is entered with
@@ -117,13 +125,13 @@ module _ (flow : PlainFlow) (p n x next : ℕ) (args : List ℕ) (g : PlainFlowF
   argument_lies : (y arg : ℕ) → IsArgument g.params_of args y arg → UseLies flow arg p (f arg) → Lies flow (at_entry n y) (f arg)
   argument_lies y arg i h = record {
     covers = covers_wider (told_keys flow) _ _ _ _
-        (λ a w j. same_in flow (set_of a (at_entry n y)) (use_of a arg p) w (Row.parameter a p x n next y arg args g at is i) j)
-        (λ a j. same_yes flow (set_of a (at_entry n y)) (use_of a arg p) (Row.parameter a p x n next y arg args g at is i) j) (f arg) h.covers;
+        (λ a w j. same_in flow (set_of a (at_entry n y)) (use_of a arg p) w (rows.parameter a p x n next y arg args g at is i) j)
+        (λ a j. same_yes flow (set_of a (at_entry n y)) (use_of a arg p) (rows.parameter a p x n next y arg args g at is i) j) (f arg) h.covers;
     value = h.value;
   }
 
   null_lies : (y : ℕ) → IsOwnSlot g y → (Contains g.params_of y → ⊥) → Lies flow (at_entry n y) null
-  null_lies y o gone = record { covers = In.text (set_of (own text_half) (at_entry n y)) [] (Row.null_slot n y g is o gone); value = null_value }
+  null_lies y o gone = record { covers = In.text (set_of (Own half.Text) (at_entry n y)) [] (rows.null_slot n y g is o gone); value = null_value }
 
   entered : (xs ys : List ℕ) (y : ℕ) → IsOwnSlot g y → ((i z a : ℕ) → slice_get xs i ≡ Some z → slice_get ys i ≡ Some a → IsArgument g.params_of args z a) → length ys ≡ length xs → All (λ a. UseLies flow a p (f a)) ys
       → (Contains g.params_of y → Contains xs y) → Lies flow (at_entry n y) (arguments_in xs (map f ys) y)
@@ -153,8 +161,8 @@ module _ (flow : PlainFlow) (p n x next : ℕ) (args : List ℕ) (g : PlainFlowF
 call_lies : (flow : PlainFlow) (p x n next : ℕ) (args : List ℕ) (v : Plain) → point_at flow p ≡ Some (call_point x n args next) → ResultLies flow n v → Lies flow (at_point p) v
 call_lies flow p x n next args v at h = record {
   covers = covers_wider (told_keys flow) _ _ _ _
-      (λ a w i. same_in flow (set_of a (at_point p)) (result_of a n) w (Row.result a p x n next args at) i)
-      (λ a i. same_yes flow (set_of a (at_point p)) (result_of a n) (Row.result a p x n next args at) i) v h.covers;
+      (λ a w i. same_in flow (set_of a (at_point p)) (Result a n) w (rows.result a p x n next args at) i)
+      (λ a i. same_yes flow (set_of a (at_point p)) (Result a n) (rows.result a p x n next args at) i) v h.covers;
   value = h.value;
 }
 
@@ -162,8 +170,8 @@ call_lies flow p x n next args v at h = record {
 return_lies : (flow : PlainFlow) (n p x : ℕ) (g : PlainFlowFunction) (v : Plain) → function_at flow n ≡ Some g → IsOwnPoint g p → point_at flow p ≡ Some (return_point x) → UseLies flow x p v → ResultLies flow n v
 return_lies flow n p x g v is o at h = record {
   covers = covers_wider (told_keys flow) _ _ _ _
-      (λ a w i. same_in flow (result_of a n) (use_of a x p) w (Row.returned a n p x g is o at) i)
-      (λ a i. same_yes flow (result_of a n) (use_of a x p) (Row.returned a n p x g is o at) i) v h.covers;
+      (λ a w i. same_in flow (Result a n) (use_of a x p) w (rows.returned a n p x g is o at) i)
+      (λ a i. same_yes flow (Result a n) (use_of a x p) (rows.returned a n p x g is o at) i) v h.covers;
   value = h.value;
 }
 
@@ -177,7 +185,7 @@ some_same h e = cc
 module _ (flow : PlainFlow) (r : PlainRequest) (lawful' : IsFlow flow) (admitted : Admitted r) where
   -- a point that prints nothing
   silent : (n p q : ℕ) (i : PlainPoint) (w : List ℕ) (end : FlowEnd) → point_at flow p ≡ Some i → PrintsNothing i → Contains (nexts i) q → Sound flow n q w end → Sound flow n p w end
-  silent n p q i w end at no' goes h = record { printed = same_in flow (out_of p (leaving end)) (out_of q (leaving end)) w (Row.at_silent p q i (leaving end) at no' goes) h.printed; result = h.result }
+  silent n p q i w end at no' goes h = record { printed = same_in flow (Out p (leaving end)) (Out q (leaving end)) w (rows.at_silent p q i (leaving end) at no' goes) h.printed; result = h.result }
 
   pub sound : (room p : ℕ) (f : Frame) (w : List ℕ) (end : FlowEnd) → RunsFrom flow r room p f w end → (n : ℕ) (g : PlainFlowFunction) → function_at flow n ≡ Some g → IsOwnPoint g p → FrameHolds flow g p f → Sound flow n p w end
   unfolding reads sets nexts
@@ -198,7 +206,7 @@ module _ (flow : PlainFlow) (r : PlainRequest) (lawful' : IsFlow flow) (admitted
       let after = sound (suc room) next (set_slot f x v) w end rest n g is (All-contains (IsOwnPoint g) (next ∷ []) next fit.stays goes)
       (set_frame flow g p next i at goes f x v refl (call_lies flow p x k next args v at whole.result) h) in
       record {
-        printed = In.join (out_of p (leaving end)) (out_of g'.entry_of by_return) (out_of next (leaving end)) u w (Row.at_call p x k next args g' (leaving end) at is') whole.printed after.printed;
+        printed = In.join (Out p (leaving end)) (Out g'.entry_of Return) (Out next (leaving end)) u w (rows.at_call p x k next args g' (leaving end) at is') whole.printed after.printed;
         result = after.result;
       }
   sound _ _ _ _ _ (runs.call_exits room p x k next args g' f w at is' inner) n g is o h =
@@ -208,20 +216,20 @@ module _ (flow : PlainFlow) (r : PlainRequest) (lawful' : IsFlow flow) (admitted
       let len : length args ≡ length g'.params_of = subst (λ g'. length args ≡ length g'.params_of) same fit.parts.2 in
       let known = all_of (λ a. UseLies flow a p (f.slots a)) args (read_lies flow g p f args h fit.reads_own) in
       let whole = sound room g'.entry_of (fresh (arguments_in g'.params_of (map f.slots args))) w exited inner k g' is' (function_fits flow k g' lawful' is').entry (entry_frame flow p k x next args g' at is' f.slots len known) in
-      record { printed = same_in flow (out_of p by_exit) (out_of g'.entry_of by_exit) w (Row.at_call_exit p x k next args g' at is') whole.printed; result = tt }
+      record { printed = same_in flow (Out p Exit) (Out g'.entry_of Exit) w (rows.at_call_exit p x k next args g' at is') whole.printed; result = tt }
   sound _ _ _ _ _ (runs.print room p next bytes f w end at rest) n g is o h =
       let i = print_point bytes next in
       let fit = point_fits flow n p g i lawful' is o at in
       let goes = Contains-head next [] in
       let after = sound room next f w end rest n g is (All-contains (IsOwnPoint g) (next ∷ []) next fit.stays goes) (same_frame flow g p next i at goes f refl h) in
-      record { printed = In.before (out_of p (leaving end)) (out_of next (leaving end)) bytes w (Row.at_print p next bytes (leaving end) at) after.printed; result = after.result }
+      record { printed = In.before (Out p (leaving end)) (Out next (leaving end)) bytes w (rows.at_print p next bytes (leaving end) at) after.printed; result = after.result }
   sound _ _ _ _ _ (runs.echo room p x next f w end at rest) n g is o h =
       let i = echo_point x next in
       let fit = point_fits flow n p g i lawful' is o at in
       let goes = Contains-head next [] in
       let after = sound room next f w end rest n g is (All-contains (IsOwnPoint g) (next ∷ []) next fit.stays goes) (same_frame flow g p next i at goes f refl h) in
       record {
-        printed = In.join (out_of p (leaving end)) (shown_at x p) (out_of next (leaving end)) (text_of (f.slots x)) w (Row.at_echo p x next (leaving end) at)
+        printed = In.join (Out p (leaving end)) (shown_at x p) (Out next (leaving end)) (text_of (f.slots x)) w (rows.at_echo p x next (leaving end) at)
             (shown_in flow x p (f.slots x) (read_lies flow g p f (x ∷ []) h fit.reads_own x (Contains-head x []))) after.printed;
         result = after.result;
       }
@@ -272,14 +280,14 @@ module _ (flow : PlainFlow) (r : PlainRequest) (lawful' : IsFlow flow) (admitted
   sound _ _ _ _ _ (runs.return room p x f at) n g is o h =
       let fit = point_fits flow n p g (return_point x) lawful' is o at in
       record {
-        printed = In.text (out_of p by_return) [] (Row.at_return p x at);
+        printed = In.text (Out p Return) [] (rows.at_return p x at);
         result = return_lies flow n p x g (f.slots x) is o at (read_lies flow g p f (x ∷ []) h fit.reads_own x (Contains-head x []));
       }
-  sound _ _ _ _ _ (runs.quit room p f at) n g is o h = record { printed = In.text (out_of p by_exit) [] (Row.at_quit p at); result = tt }
+  sound _ _ _ _ _ (runs.quit room p f at) n g is o h = record { printed = In.text (Out p Exit) [] (rows.at_quit p at); result = tt }
   sound _ _ _ _ _ (runs.quit_with room p x f t at e) n g is o h =
       let fit = point_fits flow n p g (quit_point (Some x)) lawful' is o at in
       let lies : UseLies flow x p (text t) = subst (UseLies flow x p) e (read_lies flow g p f (x ∷ []) h fit.reads_own x (Contains-head x [])) in
-      record { printed = same_in flow (out_of p by_exit) (use_of (own text_half) x p) t (Row.at_quit_with p x at) lies.covers; result = tt }
+      record { printed = same_in flow (Out p Exit) (use_of (Own half.Text) x p) t (rows.at_quit_with p x at) lies.covers; result = tt }
 
 -- a run of the whole program
 pub ended_runs : (flow : PlainFlow) (r : PlainRequest) (printed : List ℕ) → IsFlow flow → Admitted r → FlatRun flow r printed → Loose flow printed
@@ -289,7 +297,7 @@ ended_runs flow r printed h admitted run =
     let whole = sound flow r h admitted 256 run.main.entry_of (fresh (λ x. null)) printed run.end run.runs 0 run.main run.is_main fits.entry (λ x o. record {
       definition = at_entry 0 x;
       reaches = Reaches.entered 0 x run.main run.is_main o;
-      lies = record { covers = In.text (set_of (own text_half) (at_entry 0 x)) [] (Row.null_slot 0 x run.main run.is_main o (no_params flow run.main h run.is_main x)); value = null_value };
+      lies = record { covers = In.text (set_of (Own half.Text) (at_entry 0 x)) [] (rows.null_slot 0 x run.main run.is_main o (no_params flow run.main h run.is_main x)); value = null_value };
       walk = no_walk_lies flow (at_entry 0 x);
     }) in
     record { main = run.main; is_main = run.is_main; end = leaving run.end; printed = whole.printed }

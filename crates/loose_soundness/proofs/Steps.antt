@@ -12,8 +12,11 @@ use Rattle.flow_code.specs.Lawful.{sets, nexts, IsOwnSlot}
 use Rattle.flow_code.specs.Runs.{Walk, no_walk, Frame, set_slot, set_walk}
 use Rattle.loose_sets.specs.Reaching.{Definition, at_point, Reaches}
 use Rattle.loose_sets.specs.Keys.{told_keys}
-use Rattle.loose_sets.specs.Names.{text_half, array_half, Aspect, own, member, others, keys_of, set_of, use_of, all_of}
-use Rattle.loose_sets.specs.Table.{Row, deeper}
+use Rattle.loose_sets.specs.declared.name.Aspect.{Aspect}
+use Rattle.loose_sets.specs.declared.name.Aspect.TheVariants.{Own, Member, Others, Keys}
+use Rattle.loose_sets.specs.declared.name.Half.TheVariants as half
+use Rattle.loose_soundness.proofs.Names.{set_of, use_of, all_of}
+use Rattle.loose_soundness.proofs.Rows as rows
 use Rattle.loose_soundness.proofs.Covers.{OwnIn, InsideIn, KeysIn, KeysInAll, MembersIn, Covers, place, own_wider, keys_wider, covers_wider, covers_deep, inside_wider}
 use Rattle.loose_soundness.proofs.Lying.{HasIn, SaysIn, Def, DefYes, Use, UseYes, Lies, UseLies, use_lies, same_in, same_yes, by_place}
 use Rattle.function_laws.proofs.Arrays.{key_value}
@@ -21,16 +24,16 @@ use Rattle.function_laws.proofs.Arrays.{key_value}
 -- pairs that are left of a walk
 pub record RestLies (flow : PlainFlow) (d : Definition) (ps : Pairs) : Type 0 where
   pub members_of : MembersIn (told_keys flow) (Def flow d) (DefYes flow d) ps
-  pub keys_are : KeysInAll (Def flow d keys_of) ps
+  pub keys_are : KeysInAll (Def flow d Keys) ps
   pub values : PairsHaveValues ps
   pub shallow : deepest ps ≤ 999
 
 -- the member where a walk stands
 pub record NowLies (flow : PlainFlow) (d : Definition) (k : PlainKey) (v : Plain) : Type 0 where
-  pub own_in : OwnIn (Def flow d (place (told_keys flow) k text_half)) (DefYes flow d (place (told_keys flow) k array_half)) v
-  pub inside : InsideIn (Def flow d (others text_half)) (DefYes flow d (others array_half)) v
-  pub key_in : Def flow d keys_of (text_of (value_of_key k))
-  pub keys_in : KeysIn (Def flow d keys_of) v
+  pub own_in : OwnIn (Def flow d (place (told_keys flow) k half.Text)) (DefYes flow d (place (told_keys flow) k half.Array)) v
+  pub inside : InsideIn (Def flow d (Others half.Text)) (DefYes flow d (Others half.Array)) v
+  pub key_in : Def flow d Keys (text_of (value_of_key k))
+  pub keys_in : KeysIn (Def flow d Keys) v
   pub key_is : IsKey k
   pub value : IsValue v
 
@@ -126,8 +129,8 @@ module _ (flow : PlainFlow) (g : PlainFlowFunction) (p q : ℕ) (i : PlainPoint)
 pub begin_lies : (flow : PlainFlow) (p x from next : ℕ) (v : Plain) → point_at flow p ≡ Some (begin_point x from next) → UseLies flow from p v → Lies flow (at_point p) v
 begin_lies flow p x from next v at h = record {
   covers = covers_wider (told_keys flow) _ _ _ _
-      (λ a w i. same_in flow (set_of a (at_point p)) (use_of a from p) w (Row.walk_copy a p x from next at) i)
-      (λ a i. same_yes flow (set_of a (at_point p)) (use_of a from p) (Row.walk_copy a p x from next at) i) v h.covers;
+      (λ a w i. same_in flow (set_of a (at_point p)) (use_of a from p) w (rows.walk_copy a p x from next at) i)
+      (λ a i. same_yes flow (set_of a (at_point p)) (use_of a from p) (rows.walk_copy a p x from next at) i) v h.covers;
   value = h.value;
 }
 
@@ -141,44 +144,43 @@ rest_begins flow d (array ps) h = record { members_of = h.covers.1; keys_are = h
 -- the key of a walk, and its value
 module _ (flow : PlainFlow) (p x from next : ℕ) (k : PlainKey) (v : Plain) (d : Definition) (reaches : Reaches flow d from p) (now : NowLies flow d k v) where
   used : (a : Aspect) (w : List ℕ) → Def flow d a w → Use flow from p a w
-  used a w i = same_in flow (use_of a from p) (set_of a d) w (Row.reaching a d from p reaches) i
+  used a w i = same_in flow (use_of a from p) (set_of a d) w (rows.reaching a d from p reaches) i
 
   used_yes : (a : Aspect) → DefYes flow d a → UseYes flow from p a
-  used_yes a i = same_yes flow (use_of a from p) (set_of a d) (Row.reaching a d from p reaches) i
+  used_yes a i = same_yes flow (use_of a from p) (set_of a d) (rows.reaching a d from p reaches) i
 
   pub key_lies : point_at flow p ≡ Some (key_point x from next) → Lies flow (at_point p) (value_of_key k)
   key_lies at = record {
-    covers = by k (same_in flow (set_of (own text_half) (at_point p)) (use_of keys_of from p) (text_of (value_of_key k)) (Row.walk_key p x from next at) (used keys_of (text_of (value_of_key k)) now.key_in));
+    covers = by k (same_in flow (set_of (Own half.Text) (at_point p)) (use_of Keys from p) (text_of (value_of_key k)) (rows.walk_key p x from next at) (used Keys (text_of (value_of_key k)) now.key_in));
     value = key_value k now.key_is;
   }
     where
-      by : (k : PlainKey) → Def flow (at_point p) (own text_half) (text_of (value_of_key k)) → Covers (told_keys flow) (Def flow (at_point p)) (DefYes flow (at_point p)) (value_of_key k)
+      by : (k : PlainKey) → Def flow (at_point p) (Own half.Text) (text_of (value_of_key k)) → Covers (told_keys flow) (Def flow (at_point p)) (DefYes flow (at_point p)) (value_of_key k)
       by (int_key z) h = h
       by (text_key t) h = h
 
   pub value_lies : point_at flow p ≡ Some (value_point x from next) → Lies flow (at_point p) v
-  unfolding deeper
   value_lies at = record {
-    covers = covers_deep (told_keys flow) (Def flow (at_point p)) (DefYes flow (at_point p)) (Use flow from p (others text_half)) (UseYes flow from p (others array_half))
-        (λ c. by_place flow c text_half (λ a. (w : List ℕ) → Use flow from p (others text_half) w → Def flow (at_point p) a w)
-        (λ t w i. same_in flow _ _ w (Row.walk_deep (member c text_half) (others text_half) p x from next at refl) i)
-        (λ w i. same_in flow _ _ w (Row.walk_deep (others text_half) (others text_half) p x from next at refl) i))
-        (λ c. by_place flow c array_half (λ a. UseYes flow from p (others array_half) → DefYes flow (at_point p) a)
-        (λ t i. same_yes flow _ _ (Row.walk_deep (member c array_half) (others array_half) p x from next at refl) i)
-        (λ i. same_yes flow _ _ (Row.walk_deep (others array_half) (others array_half) p x from next at refl) i))
-        (λ w i. same_in flow _ _ w (Row.walk_deep (others text_half) (others text_half) p x from next at refl) i)
-        (λ i. same_yes flow _ _ (Row.walk_deep (others array_half) (others array_half) p x from next at refl) i) v
+    covers = covers_deep (told_keys flow) (Def flow (at_point p)) (DefYes flow (at_point p)) (Use flow from p (Others half.Text)) (UseYes flow from p (Others half.Array))
+        (λ c. by_place flow c half.Text (λ a. (w : List ℕ) → Use flow from p (Others half.Text) w → Def flow (at_point p) a w)
+        (λ n t w i. same_in flow _ _ w (rows.walk_deep (Member n half.Text) (Others half.Text) p x from next at refl) i)
+        (λ w i. same_in flow _ _ w (rows.walk_deep (Others half.Text) (Others half.Text) p x from next at refl) i))
+        (λ c. by_place flow c half.Array (λ a. UseYes flow from p (Others half.Array) → DefYes flow (at_point p) a)
+        (λ n t i. same_yes flow _ _ (rows.walk_deep (Member n half.Array) (Others half.Array) p x from next at refl) i)
+        (λ i. same_yes flow _ _ (rows.walk_deep (Others half.Array) (Others half.Array) p x from next at refl) i))
+        (λ w i. same_in flow _ _ w (rows.walk_deep (Others half.Text) (Others half.Text) p x from next at refl) i)
+        (λ i. same_yes flow _ _ (rows.walk_deep (Others half.Array) (Others half.Array) p x from next at refl) i) v
         (own_wider _ _ _ _
-        (λ w i. same_in flow _ (all_of text_half from p) w (Row.walk_value text_half p x from next at)
-        (by_place flow k text_half (λ a. Use flow from p a w → HasIn flow (all_of text_half from p) w)
-        (λ t j. same_in flow _ _ w (Row.all_told text_half from p k t) j) (λ j. same_in flow _ _ w (Row.all_others text_half from p) j)
-        (used (place (told_keys flow) k text_half) w i)))
-        (λ i. same_yes flow _ (all_of array_half from p) (Row.walk_value array_half p x from next at)
-        (by_place flow k array_half (λ a. UseYes flow from p a → SaysIn flow (all_of array_half from p))
-        (λ t j. same_yes flow _ _ (Row.all_told array_half from p k t) j) (λ j. same_yes flow _ _ (Row.all_others array_half from p) j)
-        (used_yes (place (told_keys flow) k array_half) i)))
+        (λ w i. same_in flow _ (all_of half.Text from p) w (rows.walk_value half.Text p x from next at)
+        (by_place flow k half.Text (λ a. Use flow from p a w → HasIn flow (all_of half.Text from p) w)
+        (λ n t j. same_in flow _ _ w (rows.all_told half.Text from p n t) j) (λ j. same_in flow _ _ w (rows.all_others half.Text from p) j)
+        (used (place (told_keys flow) k half.Text) w i)))
+        (λ i. same_yes flow _ (all_of half.Array from p) (rows.walk_value half.Array p x from next at)
+        (by_place flow k half.Array (λ a. UseYes flow from p a → SaysIn flow (all_of half.Array from p))
+        (λ n t j. same_yes flow _ _ (rows.all_told half.Array from p n t) j) (λ j. same_yes flow _ _ (rows.all_others half.Array from p) j)
+        (used_yes (place (told_keys flow) k half.Array) i)))
         v now.own_in)
-        (inside_wider _ _ _ _ (used (others text_half)) (used_yes (others array_half)) v now.inside)
-        (keys_wider _ _ (λ w i. same_in flow _ (use_of keys_of from p) w (Row.walk_deep keys_of keys_of p x from next at refl) (used keys_of w i)) v now.keys_in);
+        (inside_wider _ _ _ _ (used (Others half.Text)) (used_yes (Others half.Array)) v now.inside)
+        (keys_wider _ _ (λ w i. same_in flow _ (use_of Keys from p) w (rows.walk_deep Keys Keys p x from next at refl) (used Keys w i)) v now.keys_in);
     value = now.value;
   }

@@ -33,8 +33,14 @@ use Rattle.least_sets.specs.Forms.{join_form, integer_form}
 use Rattle.least_sets.specs.Sets.{In}
 use Rattle.loose_sets.specs.Reaching.{at_point}
 use Rattle.loose_sets.specs.Keys.{told_keys}
-use Rattle.loose_sets.specs.Names.{text_half, array_half, own, set_of, use_of, all_of, shown_at, joined_from, piece_of, further_piece_of, further_pieces_of}
-use Rattle.loose_sets.specs.Table.{Row, SourceRow, SetsTo}
+use Rattle.loose_sets.specs.declared.name.Aspect.TheVariants.{Own}
+use Rattle.loose_sets.specs.declared.name.Half.TheVariants as half
+use Rattle.loose_sets.specs.declared.name.SetName.TheVariants.{Joined, Piece, FurtherPiece, FurtherPieces}
+use Rattle.loose_soundness.proofs.Names.{set_of, use_of, all_of, shown_at}
+use Rattle.loose_sets.specs.Table.{SetsTo}
+use Rattle.loose_soundness.proofs.SourceRows as sources
+use Rattle.loose_soundness.proofs.SourceRows.{IsSourceRow}
+use Rattle.loose_soundness.proofs.Rows as rows
 use Rattle.function_laws.proofs.Texts.{text_value, flag_value, text_short, within, within_value}
 use Rattle.function_laws.proofs.Functions.{function_value}
 use Rattle.function_laws.proofs.Numbers.{sum_value, difference_value, product_value, remainder_value, negation_value, increment_value, decrement_value}
@@ -45,36 +51,36 @@ use Rattle.loose_soundness.proofs.Simple.{text_in, from_in}
 
 -- what is shown of a value
 pub shown_in : (flow : PlainFlow) (x p : ℕ) (v : Plain) → UseLies flow x p v → HasIn flow (shown_at x p) (text_of v)
-shown_in flow x p null h = same_in flow (shown_at x p) (use_of (own text_half) x p) [] (Row.shown_text x p) h.covers
-shown_in flow x p (flag b) h = same_in flow (shown_at x p) (use_of (own text_half) x p) (text_of (flag b)) (Row.shown_text x p) h.covers
-shown_in flow x p (int z) h = same_in flow (shown_at x p) (use_of (own text_half) x p) (signed_decimal z) (Row.shown_text x p) h.covers
-shown_in flow x p (text t) h = same_in flow (shown_at x p) (use_of (own text_half) x p) t (Row.shown_text x p) h.covers
-shown_in flow x p (array ps) h = In.where_yes (shown_at x p) (use_of (own array_half) x p) (codes "Array") (Row.shown_array x p) h.covers.0
+shown_in flow x p null h = same_in flow (shown_at x p) (use_of (Own half.Text) x p) [] (rows.shown_text x p) h.covers
+shown_in flow x p (flag b) h = same_in flow (shown_at x p) (use_of (Own half.Text) x p) (text_of (flag b)) (rows.shown_text x p) h.covers
+shown_in flow x p (int z) h = same_in flow (shown_at x p) (use_of (Own half.Text) x p) (signed_decimal z) (rows.shown_text x p) h.covers
+shown_in flow x p (text t) h = same_in flow (shown_at x p) (use_of (Own half.Text) x p) t (rows.shown_text x p) h.covers
+shown_in flow x p (array ps) h = In.where_yes (shown_at x p) (use_of (Own half.Array) x p) (codes "Array") (rows.shown_array x p) h.covers.0
 
 -- the text of a value that is taken as a text
-pub own_text_in : (flow : PlainFlow) (x p : ℕ) (v : Plain) (t : List ℕ) → UseLies flow x p v → as_text v ≡ Ok t → Use flow x p (own text_half) t
-own_text_in flow x p null t h e = let is : t ≡ [] = cc in subst (Use flow x p (own text_half)) (sym is) h.covers
-own_text_in flow x p (flag b) t h e = let is : t ≡ text_of (flag b) = cc in subst (Use flow x p (own text_half)) (sym is) h.covers
-own_text_in flow x p (int z) t h e = let is : t ≡ text_of (int z) = cc in subst (Use flow x p (own text_half)) (sym is) h.covers
-own_text_in flow x p (text s) t h e = let is : t ≡ s = cc in subst (Use flow x p (own text_half)) (sym is) h.covers
+pub own_text_in : (flow : PlainFlow) (x p : ℕ) (v : Plain) (t : List ℕ) → UseLies flow x p v → as_text v ≡ Ok t → Use flow x p (Own half.Text) t
+own_text_in flow x p null t h e = let is : t ≡ [] = cc in subst (Use flow x p (Own half.Text)) (sym is) h.covers
+own_text_in flow x p (flag b) t h e = let is : t ≡ text_of (flag b) = cc in subst (Use flow x p (Own half.Text)) (sym is) h.covers
+own_text_in flow x p (int z) t h e = let is : t ≡ text_of (int z) = cc in subst (Use flow x p (Own half.Text)) (sym is) h.covers
+own_text_in flow x p (text s) t h e = let is : t ≡ s = cc in subst (Use flow x p (Own half.Text)) (sym is) h.covers
 own_text_in flow x p (array ps) t h e = cc
 
 module _ (flow : PlainFlow) (p : ℕ) where
   -- a text that its set has
-  pub text_lies : (v : Plain) (t : List ℕ) → v ≡ text t → IsValue v → Def flow (at_point p) (own text_half) t → Lies flow (at_point p) v
+  pub text_lies : (v : Plain) (t : List ℕ) → v ≡ text t → IsValue v → Def flow (at_point p) (Own half.Text) t → Lies flow (at_point p) v
   text_lies v t is h i = record { covers = subst (Covers (told_keys flow) (Def flow (at_point p)) (DefYes flow (at_point p))) (sym is) i; value = h }
 
   -- joined values, from the i-th on
   joined_in : (f : Slots) (xs all : List ℕ) (i : ℕ) → SetsTo flow p (concat_source all) → ((j : ℕ) → slice_get xs j ≡ slice_get all (i + j)) → length all ≡ i + length xs → All (λ x. UseLies flow x p (f x)) xs
-      → HasIn flow (joined_from p i) (flat_map text_of (map f xs))
-  joined_in f [] all i st at len h = subst (λ n. HasIn flow (joined_from p n) []) (omega (arith, len)) (In.text (joined_from p (length all)) [] (Row.joined_end p all st))
+      → HasIn flow (Joined p i) (flat_map text_of (map f xs))
+  joined_in f [] all i st at len h = subst (λ n. HasIn flow (Joined p n) []) (omega (arith, len)) (In.text (Joined p (length all)) [] (rows.joined_end p all st))
   joined_in f (x ∷ xs) all i st at len h =
-      In.join (joined_from p i) (shown_at x p) (joined_from p (suc i)) (text_of (f x)) (flat_map text_of (map f xs)) (Row.joined_more p i x all st (ap (slice_get all) (omega arith) ∙ sym (at 0)))
+      In.join (Joined p i) (shown_at x p) (Joined p (suc i)) (text_of (f x)) (flat_map text_of (map f xs)) (rows.joined_more p i x all st (ap (slice_get all) (omega arith) ∙ sym (at 0)))
       (shown_in flow x p (f x) (All-head (λ x. UseLies flow x p (f x)) x xs h))
       (joined_in f xs all (suc i) st (λ j. at (suc j) ∙ ap (slice_get all) (omega arith)) (omega (arith, len)) (All-tail (λ x. UseLies flow x p (f x)) x xs h))
 
-  all_joined : (f : Slots) (xs : List ℕ) → SetsTo flow p (concat_source xs) → All (λ x. UseLies flow x p (f x)) xs → Def flow (at_point p) (own text_half) (flat_map text_of (map f xs))
-  all_joined f xs st h = from_in flow p (concat_source xs) (own text_half) (joined_from p 0) st (SourceRow.concat xs) (flat_map text_of (map f xs)) (joined_in f xs xs 0 st (λ j. ap (slice_get xs) (omega arith)) (omega arith) h)
+  all_joined : (f : Slots) (xs : List ℕ) → SetsTo flow p (concat_source xs) → All (λ x. UseLies flow x p (f x)) xs → Def flow (at_point p) (Own half.Text) (flat_map text_of (map f xs))
+  all_joined f xs st h = from_in flow p (concat_source xs) (Own half.Text) (Joined p 0) st (sources.concat xs) (flat_map text_of (map f xs)) (joined_in f xs xs 0 st (λ j. ap (slice_get xs) (omega arith)) (omega arith) h)
 
   pub concat_lies : (f : Slots) (xs : List ℕ) (u : Plain) → SetsTo flow p (concat_source xs) → All (λ x. UseLies flow x p (f x)) xs → concatenated (map f xs) ≡ Ok u → Lies flow (at_point p) u
   unfolding concatenated
@@ -83,17 +89,17 @@ module _ (flow : PlainFlow) (p : ℕ) where
       let is : u ≡ text (text_of (f x)) = cc in
       let one = All-head (λ x. UseLies flow x p (f x)) x [] h in
       text_lies u (text_of (f x)) is (subst IsValue (sym is) (text_value (text_of (f x)) (text_short (f x) (one.value).parts)))
-      (subst (Def flow (at_point p) (own text_half)) (append-nil (text_of (f x))) (all_joined f (x ∷ []) st h))
+      (subst (Def flow (at_point p) (Own half.Text)) (append-nil (text_of (f x))) (all_joined f (x ∷ []) st h))
   concat_lies f (x ∷ y ∷ xs) u st h e =
       let w = within (flat_map text_of (map f (x ∷ y ∷ xs))) u e in
       text_lies u (flat_map text_of (map f (x ∷ y ∷ xs))) w.0 (within_value (flat_map text_of (map f (x ∷ y ∷ xs))) u e) (all_joined f (x ∷ y ∷ xs) st h)
 
   -- copies
-  copies_in : (from : ℕ) (g : Builtin) (args : List ℕ) (t : List ℕ) (n : ℕ) → SetsTo flow p (repeat_source from g args) → Use flow from p (own text_half) t → Def flow (at_point p) (own text_half) (copies_of n t)
-  copies_in from g args t zero st h = text_in flow p (repeat_source from g args) (own text_half) [] st (SourceRow.repeat_none from g args)
+  copies_in : (from : ℕ) (g : Builtin) (args : List ℕ) (t : List ℕ) (n : ℕ) → SetsTo flow p (repeat_source from g args) → Use flow from p (Own half.Text) t → Def flow (at_point p) (Own half.Text) (copies_of n t)
+  copies_in from g args t zero st h = text_in flow p (repeat_source from g args) (Own half.Text) [] st (sources.repeat_none from g args)
   copies_in from g args t (suc n) st h =
-      In.join (set_of (own text_half) (at_point p)) (use_of (own text_half) from p) (set_of (own text_half) (at_point p)) t (copies_of n t)
-      (of_source flow p (repeat_source from g args) (own text_half) (join_form (use_of (own text_half) from p) (set_of (own text_half) (at_point p))) st (SourceRow.repeat_more from g args)) h (copies_in from g args t n st h)
+      In.join (set_of (Own half.Text) (at_point p)) (use_of (Own half.Text) from p) (set_of (Own half.Text) (at_point p)) t (copies_of n t)
+      (of_source flow p (repeat_source from g args) (Own half.Text) (join_form (use_of (Own half.Text) from p) (set_of (Own half.Text) (at_point p))) st (sources.repeat_more from g args)) h (copies_in from g args t n st h)
 
   pub repeat_lies : (f : Slots) (from n : ℕ) (u : Plain) → SetsTo flow p (repeat_source from builtin.StrRepeat (from ∷ n ∷ [])) → UseLies flow from p (f from) → builtin_value builtin.StrRepeat (f from ∷ f n ∷ []) ≡ Ok u → Lies flow (at_point p) u
   repeat_lies f from n u st h e = by (as_text (f from)) refl e
@@ -113,12 +119,12 @@ module _ (flow : PlainFlow) (p : ℕ) where
       by (Ok t) i g = by_number t i (number_of (f n)) g
 
   -- members of an array, joined
-  piece_in : (sep from : ℕ) (g : Builtin) (args : List ℕ) → SetsTo flow p (implode_source sep from g args) → (v : Plain) → OwnIn (HasIn flow (all_of text_half from p)) (SaysIn flow (all_of array_half from p)) v → HasIn flow (piece_of p) (text_of v)
-  piece_in sep from g args st null h = same_in flow (piece_of p) (all_of text_half from p) [] (Row.piece_text p sep from g args st) h
-  piece_in sep from g args st (flag b) h = same_in flow (piece_of p) (all_of text_half from p) (text_of (flag b)) (Row.piece_text p sep from g args st) h
-  piece_in sep from g args st (int z) h = same_in flow (piece_of p) (all_of text_half from p) (signed_decimal z) (Row.piece_text p sep from g args st) h
-  piece_in sep from g args st (text t) h = same_in flow (piece_of p) (all_of text_half from p) t (Row.piece_text p sep from g args st) h
-  piece_in sep from g args st (array ps) h = In.where_yes (piece_of p) (all_of array_half from p) (codes "Array") (Row.piece_array p sep from g args st) h
+  piece_in : (sep from : ℕ) (g : Builtin) (args : List ℕ) → SetsTo flow p (implode_source sep from g args) → (v : Plain) → OwnIn (HasIn flow (all_of half.Text from p)) (SaysIn flow (all_of half.Array from p)) v → HasIn flow (Piece p) (text_of v)
+  piece_in sep from g args st null h = same_in flow (Piece p) (all_of half.Text from p) [] (rows.piece_text p sep from g args st) h
+  piece_in sep from g args st (flag b) h = same_in flow (Piece p) (all_of half.Text from p) (text_of (flag b)) (rows.piece_text p sep from g args st) h
+  piece_in sep from g args st (int z) h = same_in flow (Piece p) (all_of half.Text from p) (signed_decimal z) (rows.piece_text p sep from g args st) h
+  piece_in sep from g args st (text t) h = same_in flow (Piece p) (all_of half.Text from p) t (rows.piece_text p sep from g args st) h
+  piece_in sep from g args st (array ps) h = In.where_yes (Piece p) (all_of half.Array from p) (codes "Array") (rows.piece_array p sep from g args st) h
 
   -- what stands behind a first piece
   behind_first : List ℕ → List (List ℕ) → List ℕ
@@ -130,22 +136,22 @@ module _ (flow : PlainFlow) (p : ℕ) where
   join_first sep t [] = sym (append-nil t)
   join_first sep t (u ∷ ts) = ap (λ w. t ++ (sep ++ w)) (join_first sep u ts)
 
-  module _ (sep from : ℕ) (g : Builtin) (args : List ℕ) (st : SetsTo flow p (implode_source sep from g args)) (t : List ℕ) (ht : Use flow sep p (own text_half) t) where
-    further_in : (ps : Pairs) → AllIn (HasIn flow (all_of text_half from p)) (SaysIn flow (all_of array_half from p)) ps → HasIn flow (further_pieces_of p) (behind_first t (member_texts ps))
+  module _ (sep from : ℕ) (g : Builtin) (args : List ℕ) (st : SetsTo flow p (implode_source sep from g args)) (t : List ℕ) (ht : Use flow sep p (Own half.Text) t) where
+    further_in : (ps : Pairs) → AllIn (HasIn flow (all_of half.Text from p)) (SaysIn flow (all_of half.Array from p)) ps → HasIn flow (FurtherPieces p) (behind_first t (member_texts ps))
     unfolding behind_first
-    further_in empty h = In.text (further_pieces_of p) [] (Row.further_none p sep from g args st)
+    further_in empty h = In.text (FurtherPieces p) [] (rows.further_none p sep from g args st)
     further_in (pair k v ps) h =
-        subst (HasIn flow (further_pieces_of p)) (append_assoc t (text_of v) (behind_first t (member_texts ps)))
-        (In.join (further_pieces_of p) (further_piece_of p) (further_pieces_of p) (t ++ text_of v) (behind_first t (member_texts ps)) (Row.further_more p sep from g args st)
-        (In.join (further_piece_of p) (use_of (own text_half) sep p) (piece_of p) t (text_of v) (Row.further_piece p sep from g args st) ht (piece_in sep from g args st v h.0))
+        subst (HasIn flow (FurtherPieces p)) (append_assoc t (text_of v) (behind_first t (member_texts ps)))
+        (In.join (FurtherPieces p) (FurtherPiece p) (FurtherPieces p) (t ++ text_of v) (behind_first t (member_texts ps)) (rows.further_more p sep from g args st)
+        (In.join (FurtherPiece p) (use_of (Own half.Text) sep p) (Piece p) t (text_of v) (rows.further_piece p sep from g args st) ht (piece_in sep from g args st v h.0))
         (further_in ps h.2))
 
-    pub imploded_in : (ps : Pairs) → AllIn (HasIn flow (all_of text_half from p)) (SaysIn flow (all_of array_half from p)) ps → Def flow (at_point p) (own text_half) (join_of t (member_texts ps))
-    imploded_in empty h = text_in flow p (implode_source sep from g args) (own text_half) [] st (SourceRow.implode_none sep from g args)
+    pub imploded_in : (ps : Pairs) → AllIn (HasIn flow (all_of half.Text from p)) (SaysIn flow (all_of half.Array from p)) ps → Def flow (at_point p) (Own half.Text) (join_of t (member_texts ps))
+    imploded_in empty h = text_in flow p (implode_source sep from g args) (Own half.Text) [] st (sources.implode_none sep from g args)
     imploded_in (pair k v ps) h =
-        subst (Def flow (at_point p) (own text_half)) (sym (join_first t (text_of v) (member_texts ps)))
-        (In.join (set_of (own text_half) (at_point p)) (piece_of p) (further_pieces_of p) (text_of v) (behind_first t (member_texts ps))
-        (of_source flow p (implode_source sep from g args) (own text_half) (join_form (piece_of p) (further_pieces_of p)) st (SourceRow.implode_more sep from g args))
+        subst (Def flow (at_point p) (Own half.Text)) (sym (join_first t (text_of v) (member_texts ps)))
+        (In.join (set_of (Own half.Text) (at_point p)) (Piece p) (FurtherPieces p) (text_of v) (behind_first t (member_texts ps))
+        (of_source flow p (implode_source sep from g args) (Own half.Text) (join_form (Piece p) (FurtherPieces p)) st (sources.implode_more sep from g args))
         (piece_in sep from g args st v h.0) (further_in ps h.2))
 
   pub implode_lies : (f : Slots) (sep from : ℕ) (u : Plain) → SetsTo flow p (implode_source sep from builtin.Implode (sep ∷ from ∷ [])) → UseLies flow sep p (f sep) → UseLies flow from p (f from)
@@ -176,7 +182,7 @@ module _ (flow : PlainFlow) (p : ℕ) where
       let i : IsValue (int z.0) = subst IsValue z.1 h in
       record {
         covers = subst (Covers (told_keys flow) (Def flow (at_point p)) (DefYes flow (at_point p))) (sym z.1)
-            (In.integer (set_of (own text_half) (at_point p)) (signed_decimal z.0) (of_source flow p (number_source sign args) (own text_half) integer_form st (SourceRow.number sign args)) (integer_is z.0 i.parts));
+            (In.integer (set_of (Own half.Text) (at_point p)) (signed_decimal z.0) (of_source flow p (number_source sign args) (Own half.Text) integer_form st (sources.number sign args)) (integer_is z.0 i.parts));
         value = h;
       }
 
@@ -262,12 +268,12 @@ module _ (flow : PlainFlow) (p : ℕ) where
   -- a truth value
   flag_lies : (sign : Work) (args : List ℕ) (b : Bool) (u : Plain) → SetsTo flow p (truth_source sign args) → u ≡ flag b → Lies flow (at_point p) u
   flag_lies sign args true u st is =
-      text_or u st is (subst (Covers (told_keys flow) (Def flow (at_point p)) (DefYes flow (at_point p))) (sym is) (text_in flow p (truth_source sign args) (own text_half) (codes "1") st (SourceRow.truth_true sign args)))
+      text_or u st is (subst (Covers (told_keys flow) (Def flow (at_point p)) (DefYes flow (at_point p))) (sym is) (text_in flow p (truth_source sign args) (Own half.Text) (codes "1") st (sources.truth_true sign args)))
     where
       text_or : (u : Plain) → SetsTo flow p (truth_source sign args) → u ≡ flag true → Covers (told_keys flow) (Def flow (at_point p)) (DefYes flow (at_point p)) u → Lies flow (at_point p) u
       text_or u st is c = record { covers = c; value = subst IsValue (sym is) (flag_value true) }
   flag_lies sign args false u st is = record {
-    covers = subst (Covers (told_keys flow) (Def flow (at_point p)) (DefYes flow (at_point p))) (sym is) (text_in flow p (truth_source sign args) (own text_half) [] st (SourceRow.truth_false sign args));
+    covers = subst (Covers (told_keys flow) (Def flow (at_point p)) (DefYes flow (at_point p))) (sym is) (text_in flow p (truth_source sign args) (Own half.Text) [] st (sources.truth_false sign args));
     value = subst IsValue (sym is) (flag_value false);
   }
 

@@ -12,10 +12,10 @@ use Rattle.flow_code.specs.Points.{PlainKeyRef, int_ref, text_ref, read_ref, poi
 use Rattle.flow_code.specs.View.{plain_point, plain_flow_function}
 use Rattle.flow_code.specs.declared.program.FlowFunction.{FlowFunction}
 use Rattle.loose_sets.specs.Keys.{literal_key, may_be_other, point_keys, listed, is_among, without_key, keys_once}
-use Rattle.set_listing.specs.Uses.{number_from}
+use Rattle.loose_sets.specs.Uses.{number_from}
 use Rattle.point_listing.specs.declared.key.ToldKey.{ToldKey}
 use Rattle.point_listing.specs.Views.{keys_seen, place_in}
-use Rattle.set_listing.proofs.MemberLaws.{Placed, placed}
+use Rattle.loose_sets.proofs.Placed.{Placed, placed}
 use Rattle.point_listing.specs.Collected.{told_after}
 
 -- literals in a row

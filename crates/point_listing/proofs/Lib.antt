@@ -4,5 +4,4 @@ pub mod PlaceLemmas
 pub mod Exact
 pub mod ReadLemmas
 pub mod Links
-pub mod Returned
 pub mod Handed

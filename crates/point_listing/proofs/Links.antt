@@ -1,27 +1,20 @@
 -- What is listed of a join is what it joins.
 use Rattle.std.proofs.Common.{◌≡◌, ◌↔◌, ℕ, List, [], ◌∷◌, Option, Some, None, refl, sym, subst, ap, ◌∙◌, Contains, map}
 use Rattle.numbered_sets.specs.Numbers.{AreDifferent}
-use Rattle.loose_sets.specs.Reaching.{at_point, at_entry}
 use Rattle.flow_graph.specs.Found.{number_in}
 use Rattle.flow_graph.proofs.FoundLemmas.{found, contains_at, number_is}
-use Rattle.loose_sets.specs.Versions.{PlainVersion, of_definition, join_at, linked_in}
+use Rattle.loose_sets.specs.Versions.{PlainVersion, linked_in}
 use Rattle.ssa_form.specs.declared.version.Version.{Version}
 use Rattle.ssa_form.specs.declared.versions.Versions.{Versions}
 use Rattle.ssa_form.specs.Versions.{asks_of, rows_of, joins_in, joins_of, row_of, joined_by, AreOnce}
 use Rattle.ssa_form.proofs.ExactLemmas.{linked_row, none_linked}
-use Rattle.set_listing.specs.SetVersions.{version_seen, versions_seen}
-use Rattle.point_listing.specs.Reading.{version_back}
+use Rattle.loose_sets.specs.Uses.{version_seen, versions_seen, version_back}
+use Rattle.loose_sets.proofs.OfVersions.{seen_back}
 use Rattle.point_listing.specs.Links.{links_seen}
-
--- a version by numbers is the version
-back : (v : PlainVersion) → version_seen (version_back v) ≡ v
-back (of_definition (at_point p)) = refl
-back (of_definition (at_entry f x)) = refl
-back (join_at p x) = refl
 
 backs : (vs : List PlainVersion) → versions_seen (map version_back vs) ≡ vs
 backs [] = refl
-backs (v ∷ vs) = ap (λ (u : PlainVersion). u ∷ versions_seen (map version_back vs)) (back v) ∙ ap (λ (us : List PlainVersion). v ∷ us) (backs vs)
+backs (v ∷ vs) = ap (λ (u : PlainVersion). u ∷ versions_seen (map version_back vs)) (seen_back v) ∙ ap (λ (us : List PlainVersion). v ∷ us) (backs vs)
 
 -- the row of a number, where no key stands twice
 row_law : (ks : List (ℕ × ℕ)) (rs : List (List Version)) (p x : ℕ) → AreDifferent ks → (v : PlainVersion) → Contains (row_of rs (number_in ks p x)) v ↔ linked_in (joins_in ks rs) p x v

@@ -2,10 +2,10 @@
 use Rattle.std.proofs.Common.{◌≡◌, ℕ, List, Option, Some, None, refl, append_assoc}
 use Rattle.std.proofs.lemmas.List.{append-nil, map-append}
 use Rattle.plain_values.specs.Plain.{PlainKey}
-use Rattle.set_listing.specs.declared.name.Half.{Half}
-use Rattle.set_listing.specs.declared.name.SetVersion.{SetVersion}
-use Rattle.set_listing.specs.declared.name.SetName.TheVariants.{Value}
-use Rattle.set_listing.specs.Uses.{number_from, in_member, member_under}
+use Rattle.loose_sets.specs.declared.name.Half.{Half}
+use Rattle.loose_sets.specs.declared.name.SetVersion.{SetVersion}
+use Rattle.loose_sets.specs.declared.name.SetName.TheVariants.{Value}
+use Rattle.loose_sets.specs.Uses.{number_from, in_member, member_under}
 use Rattle.point_listing.specs.Views.{place_in}
 use Rattle.point_listing.specs.Places.{member_placed}
 

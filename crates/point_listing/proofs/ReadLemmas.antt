@@ -4,9 +4,10 @@ use Rattle.std.specs.Option.{option_map}
 use Rattle.loose_sets.specs.Versions.{PlainVersion}
 use Rattle.ssa_form.specs.declared.version.Version.{Version}
 use Rattle.ssa_form.specs.Views as ssa
-use Rattle.set_listing.specs.declared.name.SetVersion.{SetVersion}
-use Rattle.set_listing.specs.declared.name.SetVersion.TheVariants as version
-use Rattle.point_listing.specs.Reading.{version_back, or_join}
+use Rattle.loose_sets.specs.declared.name.SetVersion.{SetVersion}
+use Rattle.loose_sets.specs.declared.name.SetVersion.TheVariants as version
+use Rattle.loose_sets.specs.Uses.{version_back}
+use Rattle.point_listing.specs.Reading.{or_join}
 
 pub read_some : (p x : ℕ) (w : Option PlainVersion) (o : Option Version) (v : Version) (r : SetVersion) → option_map ssa.version_seen o ≡ w → o ≡ Some v → r ≡ version_back (ssa.version_seen v) → r ≡ or_join p x w
 read_some p x w o v r is some back = back ∙ ap (or_join p x) (ap (option_map ssa.version_seen) (sym some) ∙ is)

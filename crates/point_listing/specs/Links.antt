@@ -2,8 +2,8 @@
 use Rattle.std.specs.Prelude.{ℕ, List, map}
 use Rattle.ssa_form.specs.declared.versions.Versions.{Versions}
 use Rattle.ssa_form.specs.Versions.{joined_by}
-use Rattle.set_listing.specs.declared.name.SetVersion.{SetVersion}
-use Rattle.point_listing.specs.Reading.{version_back}
+use Rattle.loose_sets.specs.declared.name.SetVersion.{SetVersion}
+use Rattle.loose_sets.specs.Uses.{version_back}
 
 -- of a slot at a point, in turn
 abbrev pub links_seen : Versions → ℕ → ℕ → List SetVersion

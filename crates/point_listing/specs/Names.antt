@@ -1,7 +1,7 @@
 -- Where a set belongs.
 use Rattle.std.specs.Prelude.{◌≡◌, ℕ, Some}
-use Rattle.set_listing.specs.declared.name.SetName.{SetName}
-use Rattle.set_listing.specs.Names.{point_of}
+use Rattle.loose_sets.specs.declared.name.SetName.{SetName}
+use Rattle.loose_sets.specs.Table.{point_of}
 
 -- the set belongs to the point
 abbrev pub IsAt : SetName → ℕ → Type 0

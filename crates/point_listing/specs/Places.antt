@@ -1,15 +1,15 @@
 -- What a place stands for, and forms that are put behind others.
 use Rattle.std.specs.Prelude.{◌≡◌, ℕ, List, ◌++◌, Option, Some, None}
 use Rattle.plain_values.specs.Plain.{PlainKey}
-use Rattle.set_listing.specs.declared.form.NamedForm.{NamedForm}
-use Rattle.set_listing.specs.declared.name.Half.{Half}
-use Rattle.set_listing.specs.declared.name.Aspect.TheVariants.{Member, Others}
-use Rattle.set_listing.specs.declared.name.SetVersion.{SetVersion}
-use Rattle.set_listing.specs.declared.name.SetName.{SetName}
-use Rattle.set_listing.specs.declared.name.SetName.TheVariants.{Value, Members}
-use Rattle.set_listing.specs.Forms.{forms_seen}
-use Rattle.set_listing.specs.Uses.{At}
-use Rattle.set_listing.specs.Arrays.{Forms}
+use Rattle.point_listing.specs.declared.form.NamedForm.{NamedForm}
+use Rattle.loose_sets.specs.declared.name.Half.{Half}
+use Rattle.loose_sets.specs.declared.name.Aspect.TheVariants.{Member, Others}
+use Rattle.loose_sets.specs.declared.name.SetVersion.{SetVersion}
+use Rattle.loose_sets.specs.declared.name.SetName.{SetName}
+use Rattle.loose_sets.specs.declared.name.SetName.TheVariants.{Value, Members}
+use Rattle.point_listing.specs.Forms.{forms_seen}
+use Rattle.loose_sets.specs.Uses.{At}
+use Rattle.loose_sets.specs.Arrays.{Forms}
 use Rattle.point_listing.specs.Reading.{read_at}
 use Rattle.point_listing.specs.Views.{keys_seen}
 use Rattle.point_listing.specs.declared.places.Place.{Place}

@@ -1,7 +1,7 @@
 -- The keys that are told apart as plain keys.
 use Rattle.std.specs.Prelude.{ℕ, List, Option, Some, None, map}
 use Rattle.plain_values.specs.Plain.{PlainKey, int_key, text_key}
-use Rattle.set_listing.specs.Uses.{number_from}
+use Rattle.loose_sets.specs.Uses.{number_from}
 use Rattle.point_listing.specs.declared.key.ToldKey.{ToldKey}
 use Rattle.point_listing.specs.declared.key.ToldKey.TheVariants.{Int, Text}
 

@@ -3,22 +3,22 @@
 ghost use Rattle.std.specs.Prelude.{◌≡◌, flat_map, map, IfOk, OnOk, slice_get};
 ghost use Rattle.flow_code.specs.View.{plain_item, plain_maybe_key};
 ghost use Rattle.loose_sets.specs.Keys.{is_integer_key};
-ghost use Rattle.set_listing.specs.Uses as uses;
-ghost use Rattle.set_listing.specs.Arrays as arrays;
+ghost use Rattle.loose_sets.specs.Uses as uses;
+ghost use Rattle.loose_sets.specs.Arrays as arrays;
 ghost use Rattle.point_listing.specs.Places.{told_of, at_of, Adds};
 
 use crate::members::push_array_own;
 use crate::places::Place;
 use crate::pushing::{push_form, push_text, push_where};
-use crate::{is_exactly, is_integer_key, may_be, may_be_other};
+use crate::{NamedForm, is_exactly, is_integer_key, may_be, may_be_other};
 use flow_code::KeyRef;
+use loose_sets::{Aspect, Half};
 use plain_values::decimal;
-use set_listing::{Aspect, Half, NamedForm};
 use std::alloc::Global;
 use text_base::{NoMemory, Slot};
 
 /// May a written key, or the key that comes next, be the one of this number?
-#[tactic(auto, unfolding(set_listing::specs::Uses::may_be_at, set_listing::specs::Uses::of_told))]
+#[tactic(auto, unfolding(loose_sets::specs::Uses::may_be_at, loose_sets::specs::Uses::of_told))]
 pub(crate) fn may_be_at(
     alloc: Global,
     place: &Place<'_>,
@@ -35,7 +35,7 @@ pub(crate) fn may_be_at(
 }
 
 /// Is a written key a literal, and the key of this number?
-#[tactic(auto, unfolding(set_listing::specs::Arrays::is_exactly_at, set_listing::specs::Uses::of_told))]
+#[tactic(auto, unfolding(loose_sets::specs::Arrays::is_exactly_at, loose_sets::specs::Uses::of_told))]
 pub(crate) fn is_exactly_at(
     alloc: Global,
     place: &Place<'_>,
@@ -52,7 +52,7 @@ pub(crate) fn is_exactly_at(
 }
 
 /// Is the key of this number an integer?
-#[tactic(auto, unfolding(set_listing::specs::Uses::of_told))]
+#[tactic(auto, unfolding(loose_sets::specs::Uses::of_told))]
 pub(crate) fn is_integer_at(place: &Place<'_>, number: u64) -> bool
     ensures { result ≡ uses.of_told is_integer_key (slice_get (told_of place.now) number) }
 {
@@ -63,7 +63,7 @@ pub(crate) fn is_integer_at(place: &Place<'_>, number: u64) -> bool
 }
 
 // The texts of a key that is a value: its text form, and `0`.
-#[tactic(auto, using(crate::proofs::PlaceLemmas::ends), unfolding(set_listing::specs::Arrays::key_forms))]
+#[tactic(auto, using(crate::proofs::PlaceLemmas::ends), unfolding(loose_sets::specs::Arrays::key_forms))]
 fn push_read_key(
     alloc: Global,
     forms: &mut Vec<NamedForm>,
@@ -79,7 +79,7 @@ fn push_read_key(
 }
 
 /// The texts of a key.
-#[tactic(auto, using(crate::proofs::PlaceLemmas::ends), unfolding(set_listing::specs::Arrays::key_forms))]
+#[tactic(auto, using(crate::proofs::PlaceLemmas::ends), unfolding(loose_sets::specs::Arrays::key_forms))]
 pub(crate) fn push_key(
     alloc: Global,
     forms: &mut Vec<NamedForm>,
@@ -101,7 +101,7 @@ pub(crate) fn push_key(
 }
 
 // An item of an array literal, under the key of a number.
-#[tactic(auto, unfolding(set_listing::specs::Arrays::item_under))]
+#[tactic(auto, unfolding(loose_sets::specs::Arrays::item_under))]
 fn push_item_under(
     alloc: Global,
     forms: &mut Vec<NamedForm>,
@@ -119,7 +119,7 @@ fn push_item_under(
 }
 
 // Elsewhere.
-#[tactic(auto, using(crate::proofs::PlaceLemmas::ends), unfolding(set_listing::specs::Arrays::item_elsewhere))]
+#[tactic(auto, using(crate::proofs::PlaceLemmas::ends), unfolding(loose_sets::specs::Arrays::item_elsewhere))]
 fn push_item_elsewhere(
     alloc: Global,
     forms: &mut Vec<NamedForm>,
@@ -137,7 +137,7 @@ fn push_item_elsewhere(
 }
 
 // Its keys.
-#[tactic(auto, using(crate::proofs::PlaceLemmas::ends), unfolding(set_listing::specs::Arrays::item_keys))]
+#[tactic(auto, using(crate::proofs::PlaceLemmas::ends), unfolding(loose_sets::specs::Arrays::item_keys))]
 fn push_item_keys(
     alloc: Global,
     forms: &mut Vec<NamedForm>,
@@ -208,7 +208,7 @@ fn push_items_keys(
 }
 
 /// An array literal.
-#[tactic(auto, unfolding(set_listing::specs::Arrays::array_forms))]
+#[tactic(auto, unfolding(loose_sets::specs::Arrays::array_forms))]
 pub(crate) fn push_array(
     alloc: Global,
     forms: &mut Vec<NamedForm>,

@@ -2,13 +2,13 @@
 
 ghost use Rattle.std.specs.Prelude.{◌≡◌, map, OnOk};
 ghost use Rattle.ssa_form.specs.Views.{version_seen};
-ghost use Rattle.point_listing.specs.Reading.{version_back};
-ghost use Rattle.set_listing.specs.Versions.{link_forms};
+ghost use Rattle.loose_sets.specs.Uses.{version_back};
+ghost use Rattle.loose_sets.specs.Members.{link_forms};
 ghost use Rattle.point_listing.specs.Links.{links_seen};
 ghost use Rattle.point_listing.specs.Places.{Adds};
 
-use crate::{by_numbers, push_link};
-use set_listing::{Aspect, NamedForm};
+use crate::{NamedForm, by_numbers, push_link};
+use loose_sets::Aspect;
 use ssa_form::{Version, Versions};
 use text_base::{NoMemory, Point, Slot};
 

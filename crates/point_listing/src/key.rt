@@ -5,7 +5,7 @@ ghost use Rattle.plain_values.specs.Plain.{int_key, text_key};
 ghost use Rattle.plain_values.specs.Keys.{canonical_integer, canonical_key, same_key};
 ghost use Rattle.flow_code.specs.View.{plain_key_ref};
 ghost use Rattle.loose_sets.specs.Keys.{literal_key};
-ghost use Rattle.set_listing.specs.Uses.{number_from};
+ghost use Rattle.loose_sets.specs.Uses.{number_from};
 ghost use Rattle.point_listing.specs.Views.{key_seen, keys_seen, place_in};
 
 use flow_code::KeyRef;
@@ -45,7 +45,7 @@ impl ToldKey {
 }
 
 // Where an integer stands among the keys.
-#[tactic(auto, unfolding(set_listing::specs::Uses::number_from))]
+#[tactic(auto, unfolding(loose_sets::specs::Uses::number_from))]
 fn place_of_int(number: i64, told: &[ToldKey]) -> Option<u64>
     ensures { result ≡ number_from 0 (int_key number) (keys_seen told.now) }
 {
@@ -58,7 +58,7 @@ fn place_of_int(number: i64, told: &[ToldKey]) -> Option<u64>
 }
 
 // Where a text stands among them.
-#[tactic(auto, unfolding(set_listing::specs::Uses::number_from))]
+#[tactic(auto, unfolding(loose_sets::specs::Uses::number_from))]
 fn place_of_text(text: &[u8], told: &[ToldKey]) -> Option<u64>
     ensures { result ≡ number_from 0 (text_key text.now) (keys_seen told.now) }
 {

@@ -1,12 +1,13 @@
 //! The forms of the sets of a program of points, in memory: of sets that belong to points, to
 //! versions of slots and to functions; and the keys of arrays that are told apart.
-//! Promise: each `push_` function puts exactly one list of set_listing behind the forms so far
-//! (`Adds` of specs/Places); `told_keys` gives the keys of loose_sets (specs/Views).
+//! Promise: each `push_` function puts exactly one list of the table of loose_sets behind the forms
+//! so far (`Adds` of specs/Places); `told_keys` gives the keys of loose_sets (specs/Views).
 //! Used by: extraction.
 #![tactic(auto)]
 
 mod arrays;
 mod collecting;
+mod form;
 mod joins;
 mod key;
 mod members;
@@ -24,6 +25,7 @@ mod work;
 mod writes;
 
 pub use collecting::told_keys;
+pub use form::NamedForm;
 pub use joins::push_links;
 pub use key::{ToldKey, place_of_key};
 pub use places::Place;

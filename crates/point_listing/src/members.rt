@@ -2,20 +2,20 @@
 
 ghost use Rattle.std.specs.Prelude.{◌≡◌, IfOk, OnOk};
 ghost use Rattle.flow_code.specs.View.{plain_key_ref};
-ghost use Rattle.set_listing.specs.Uses as uses;
-ghost use Rattle.set_listing.specs.Arrays as arrays;
+ghost use Rattle.loose_sets.specs.Uses as uses;
+ghost use Rattle.loose_sets.specs.Arrays as arrays;
 ghost use Rattle.point_listing.specs.Places.{told_of, at_of, Adds, member_placed};
 
-use crate::place_of_key;
 use crate::places::Place;
 use crate::pushing::{push_form, push_text};
+use crate::{NamedForm, place_of_key};
 use flow_code::KeyRef;
-use set_listing::{Aspect, Half, NamedForm, SetName, SetVersion};
+use loose_sets::{Aspect, Half, SetName, SetVersion};
 use std::alloc::Global;
 use text_base::{NoMemory, Slot};
 
 /// What is said of a value that is an array.
-#[tactic(auto, using(crate::proofs::PlaceLemmas::ends), unfolding(set_listing::specs::Arrays::array_own))]
+#[tactic(auto, using(crate::proofs::PlaceLemmas::ends), unfolding(loose_sets::specs::Arrays::array_own))]
 pub(crate) fn push_array_own(forms: &mut Vec<NamedForm>, half: Half) -> Result<(), NoMemory>
     ensures { OnOk result (Adds forms.old.items forms.new.items (arrays.array_own half)) }
 {
@@ -26,7 +26,7 @@ pub(crate) fn push_array_own(forms: &mut Vec<NamedForm>, half: Half) -> Result<(
 }
 
 // Null, where the key is not there.
-#[tactic(auto, using(crate::proofs::PlaceLemmas::ends), unfolding(set_listing::specs::Arrays::null_own))]
+#[tactic(auto, using(crate::proofs::PlaceLemmas::ends), unfolding(loose_sets::specs::Arrays::null_own))]
 fn push_null_own(alloc: Global, forms: &mut Vec<NamedForm>, half: Half) -> Result<(), NoMemory>
     ensures { OnOk result (Adds forms.old.items forms.new.items (arrays.null_own half)) }
 {
@@ -48,7 +48,7 @@ fn member_at(half: Half, version: SetVersion, place: Option<Option<u64>>) -> Set
 }
 
 // The member of a slot under a key.
-#[tactic(auto, using(crate::proofs::PlaceLemmas::by_place), unfolding(set_listing::specs::Uses::member_name))]
+#[tactic(auto, using(crate::proofs::PlaceLemmas::by_place), unfolding(loose_sets::specs::Uses::member_name))]
 fn member_name(
     alloc: Global,
     place: &Place<'_>,
@@ -64,7 +64,7 @@ fn member_name(
 }
 
 // The member itself, and null where the key is not there.
-#[tactic(auto, using(crate::proofs::PlaceLemmas::ends), unfolding(set_listing::specs::Arrays::member_forms))]
+#[tactic(auto, using(crate::proofs::PlaceLemmas::ends), unfolding(loose_sets::specs::Arrays::member_forms))]
 fn push_member_own(
     alloc: Global,
     forms: &mut Vec<NamedForm>,
@@ -83,7 +83,7 @@ fn push_member_own(
 }
 
 /// The member of a value under a key.
-#[tactic(auto, using(crate::proofs::PlaceLemmas::ends), unfolding(set_listing::specs::Arrays::member_forms))]
+#[tactic(auto, using(crate::proofs::PlaceLemmas::ends), unfolding(loose_sets::specs::Arrays::member_forms))]
 pub(crate) fn push_member(
     alloc: Global,
     forms: &mut Vec<NamedForm>,

@@ -4,14 +4,14 @@
 ghost use Rattle.std.specs.Prelude.{◌≡◌, ◌∷◌, map, Some, None, MatchOption};
 ghost use Rattle.flow_code.specs.View.{plain_point, plain_source, slot_number, maybe_slot};
 ghost use Rattle.loose_sets.specs.Keys.{listed};
-ghost use Rattle.set_listing.specs.Points as points;
+ghost use Rattle.loose_sets.specs.Points as points;
 
 use flow_code::{FlowPoint, Source};
 use op_system::Op;
 use text_base::Slot;
 
 /// The source to which a point sets its slot.
-#[tactic(auto, unfolding(set_listing::specs::Points::source_at))]
+#[tactic(auto, unfolding(loose_sets::specs::Points::source_at))]
 pub(crate) fn source_at(point: &FlowPoint) -> Option<&Source>
     ensures { MatchOption result (points.source_at (plain_point point.now) ≡ None)
         (λ source. points.source_at (plain_point point.now) ≡ Some (plain_source source.now)) }
@@ -33,7 +33,7 @@ pub(crate) fn source_at(point: &FlowPoint) -> Option<&Source>
 }
 
 /// The values that a source joins.
-#[tactic(auto, unfolding(set_listing::specs::Points::joined_slots))]
+#[tactic(auto, unfolding(loose_sets::specs::Points::joined_slots))]
 pub(crate) fn joined_slots(source: &Source) -> Option<&[Slot]>
     ensures { MatchOption result (points.joined_slots (Some (plain_source source.now)) ≡ None)
         (λ parts. points.joined_slots (Some (plain_source source.now))
@@ -57,7 +57,7 @@ pub(crate) fn joined_slots(source: &Source) -> Option<&[Slot]>
 }
 
 /// The separator of members that a source joins, and their array.
-#[tactic(auto, unfolding(set_listing::specs::Points::imploded_slots))]
+#[tactic(auto, unfolding(loose_sets::specs::Points::imploded_slots))]
 pub(crate) fn imploded_slots(source: &Source) -> Option<(Slot, Slot)>
     ensures { MatchOption result (points.imploded_slots (Some (plain_source source.now)) ≡ None)
         (λ slots. points.imploded_slots (Some (plain_source source.now))
@@ -90,7 +90,7 @@ pub(crate) struct Operation<'a> {
 }
 
 // The second of three.
-#[tactic(auto, unfolding(set_listing::specs::Points::replaced_by))]
+#[tactic(auto, unfolding(loose_sets::specs::Points::replaced_by))]
 fn second_of_three(args: &[Slot]) -> Option<Slot>
     ensures { listed (maybe_slot result) ≡ points.replaced_by Op.Any (map slot_number args.now) }
 {
@@ -101,7 +101,7 @@ fn second_of_three(args: &[Slot]) -> Option<Slot>
 }
 
 // Beside the text that it changes, `Any` reads the replacement.
-#[tactic(auto, unfolding(set_listing::specs::Points::replaced_by))]
+#[tactic(auto, unfolding(loose_sets::specs::Points::replaced_by))]
 fn replaced_by(op: &Op, args: &[Slot]) -> Option<Slot>
     ensures { listed (maybe_slot result) ≡ points.replaced_by op.now (map slot_number args.now) }
 {
@@ -125,7 +125,7 @@ fn replaced_by(op: &Op, args: &[Slot]) -> Option<Slot>
 }
 
 /// The operation of a source, if it has one.
-#[tactic(auto, unfolding(set_listing::specs::Points::operation_of))]
+#[tactic(auto, unfolding(loose_sets::specs::Points::operation_of))]
 pub(crate) fn operation_of(source: &Source) -> Option<Operation<'_>>
     ensures { MatchOption result (points.operation_of (Some (plain_source source.now)) ≡ None)
         (λ work. points.operation_of (Some (plain_source source.now))

@@ -1,12 +1,12 @@
 //! The point whose forms are listed.
 
 ghost use Rattle.std.specs.Prelude.{◌≡◌, Some, None, MatchOption, slice_get};
-ghost use Rattle.set_listing.specs.Forms.{form_seen};
-ghost use Rattle.set_listing.specs.Uses as uses;
+ghost use Rattle.point_listing.specs.Forms.{form_seen};
+ghost use Rattle.loose_sets.specs.Uses as uses;
 ghost use Rattle.point_listing.specs.Views.{key_seen};
 
-use crate::{ToldKey, version_read};
-use set_listing::{Aspect, Half, NamedForm, SetName, SetVersion};
+use crate::{NamedForm, ToldKey, version_read};
+use loose_sets::{Aspect, Half, SetName, SetVersion};
 use ssa_form::Versions;
 use text_base::Slot;
 

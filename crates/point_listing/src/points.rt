@@ -3,22 +3,22 @@
 ghost use Rattle.std.specs.Prelude.{map, slice_get, OnOk};
 ghost use Rattle.flow_code.specs.View.{plain_point, plain_flow_function};
 ghost use Rattle.flow_graph.specs.Rows.{points_seen};
-ghost use Rattle.set_listing.specs.Names.{forms_from, forms_there};
+ghost use Rattle.loose_sets.specs.Table.{forms_from, forms_there};
 ghost use Rattle.point_listing.specs.Places.{told_of, at_of, Adds};
 ghost use Rattle.point_listing.specs.Names.{IsAt};
 
 use crate::{
-    Place, push_any_further, push_further, push_inputs, push_joined, push_out, push_outputs,
-    push_piece, push_value,
+    NamedForm, Place, push_any_further, push_further, push_inputs, push_joined, push_out,
+    push_outputs, push_piece, push_value,
 };
 use flow_code::{FlowFunction, FlowPoint};
 use flow_graph::PointRow;
-use set_listing::{NamedForm, SetName, SetVersion};
+use loose_sets::{SetName, SetVersion};
 use std::alloc::Global;
 use text_base::NoMemory;
 
 // From the point, where the name belongs to it.
-#[tactic(auto, using(crate::proofs::PlaceLemmas::ends), unfolding(set_listing::specs::Names::forms_from, set_listing::specs::Names::point_of))]
+#[tactic(auto, using(crate::proofs::PlaceLemmas::ends), unfolding(loose_sets::specs::Table::forms_from, loose_sets::specs::Table::point_of))]
 fn push_from(
     alloc: Global,
     forms: &mut Vec<NamedForm>,

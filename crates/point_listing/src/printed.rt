@@ -2,13 +2,13 @@
 
 ghost use Rattle.std.specs.Prelude.{◌≡◌, ◌∷◌, [], map, OnOk, Some, None, MatchOption, slice_get};
 ghost use Rattle.flow_code.specs.View.{plain_point, plain_flow_function, maybe_slot};
-ghost use Rattle.set_listing.specs.Forms.{form_seen};
-ghost use Rattle.set_listing.specs.Printed as printed;
+ghost use Rattle.point_listing.specs.Forms.{form_seen};
+ghost use Rattle.loose_sets.specs.Printed as printed;
 ghost use Rattle.point_listing.specs.Places.{at_of, Adds};
 
-use crate::{Place, push_form, push_text};
+use crate::{NamedForm, Place, push_form, push_text};
 use flow_code::{FlowFunction, FlowPoint};
-use set_listing::{Aspect, Half, Leaving, NamedForm, SetName};
+use loose_sets::{Aspect, Half, Leaving, SetName};
 use std::alloc::Global;
 use text_base::{NoMemory, Point, Slot};
 
@@ -21,7 +21,7 @@ fn push_onward(forms: &mut Vec<NamedForm>, next: Point, leaving: Leaving) -> Res
 }
 
 // Where the function is left by a return: nothing more.
-#[tactic(auto, using(crate::proofs::PlaceLemmas::ends), unfolding(set_listing::specs::Printed::on_return))]
+#[tactic(auto, using(crate::proofs::PlaceLemmas::ends), unfolding(loose_sets::specs::Printed::on_return))]
 fn push_return(alloc: Global, forms: &mut Vec<NamedForm>, leaving: Leaving) -> Result<(), NoMemory>
     ensures { OnOk result (Adds forms.old.items forms.new.items (printed.on_return leaving)) }
 {
@@ -32,7 +32,7 @@ fn push_return(alloc: Global, forms: &mut Vec<NamedForm>, leaving: Leaving) -> R
 }
 
 // A form, where the function is left by the end of the run.
-#[tactic(auto, using(crate::proofs::PlaceLemmas::ends), unfolding(set_listing::specs::Printed::on_exit))]
+#[tactic(auto, using(crate::proofs::PlaceLemmas::ends), unfolding(loose_sets::specs::Printed::on_exit))]
 fn push_on_exit(
     forms: &mut Vec<NamedForm>,
     form: NamedForm,
@@ -48,7 +48,7 @@ fn push_on_exit(
 }
 
 // The end of the run: the text of a slot before it, where there is one.
-#[tactic(auto, using(crate::proofs::PlaceLemmas::ends), unfolding(set_listing::specs::Printed::on_exit))]
+#[tactic(auto, using(crate::proofs::PlaceLemmas::ends), unfolding(loose_sets::specs::Printed::on_exit))]
 fn push_quit(
     alloc: Global,
     forms: &mut Vec<NamedForm>,
@@ -104,7 +104,7 @@ fn push_call(
 }
 
 /// The forms of what is printed from a point on until its function is left so, behind the others.
-#[tactic(auto, using(crate::proofs::PlaceLemmas::ends), unfolding(set_listing::specs::Printed::out_forms, flow_code::specs::Lawful::nexts))]
+#[tactic(auto, using(crate::proofs::PlaceLemmas::ends), unfolding(loose_sets::specs::Printed::out_forms, flow_code::specs::Lawful::nexts))]
 pub fn push_out(
     alloc: Global,
     forms: &mut Vec<NamedForm>,

@@ -2,11 +2,11 @@
 
 ghost use Rattle.std.specs.Prelude.{◌∷◌, [], OnOk};
 ghost use Rattle.least_sets.specs.Forms.{text_form};
-ghost use Rattle.set_listing.specs.Forms.{form_seen};
-ghost use Rattle.set_listing.specs.Uses.{where_so};
+ghost use Rattle.point_listing.specs.Forms.{form_seen};
+ghost use Rattle.loose_sets.specs.Uses.{where_so};
 ghost use Rattle.point_listing.specs.Places.{Adds};
 
-use set_listing::NamedForm;
+use crate::NamedForm;
 use std::alloc::Global;
 use text_base::{Bytes, NoMemory};
 
@@ -19,7 +19,7 @@ pub fn push_form(forms: &mut Vec<NamedForm>, form: NamedForm) -> Result<(), NoMe
 }
 
 /// Puts a form behind the others, where the test holds.
-#[tactic(auto, using(crate::proofs::PlaceLemmas::ends), unfolding(set_listing::specs::Uses::where_so))]
+#[tactic(auto, using(crate::proofs::PlaceLemmas::ends), unfolding(loose_sets::specs::Uses::where_so))]
 pub fn push_where(forms: &mut Vec<NamedForm>, holds: bool, form: NamedForm) -> Result<(), NoMemory>
     ensures { OnOk result
         (Adds forms.old.items forms.new.items (where_so holds (form_seen form ∷ []))) }

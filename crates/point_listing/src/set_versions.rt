@@ -1,13 +1,13 @@
 //! The versions of slots by names of sets: which version a point reads, by numbers alone, for every
 //! point and slot. Where a point reads a slot it is the one that ssa_form has, so that versions are
-//! exact for the rows by versions (`AreExact` of loose_sets, in proofs/). Below stand ssa_form
-//! and set_listing.
+//! exact for the rows by versions (`AreExact` of loose_sets, in proofs/). Below stands ssa_form.
 
 ghost use Rattle.std.specs.Prelude.{◌≡◌};
 ghost use Rattle.ssa_form.specs.Views as ssa;
-ghost use Rattle.point_listing.specs.Reading.{version_back, read_at};
+ghost use Rattle.loose_sets.specs.Uses.{version_back};
+ghost use Rattle.point_listing.specs.Reading.{read_at};
 
-use set_listing::SetVersion;
+use loose_sets::SetVersion;
 use ssa_form::{Definition, Version, Versions};
 use text_base::{Point, Slot};
 

@@ -5,23 +5,24 @@ ghost use Rattle.plain_values.specs.Text.{text_of};
 ghost use Rattle.php_values.specs.View.{plain_of};
 ghost use Rattle.flow_code.specs.View.{plain_source};
 ghost use Rattle.least_sets.specs.Forms.{text_form};
-ghost use Rattle.set_listing.specs.Sources as spec;
+ghost use Rattle.loose_sets.specs.Sources as spec;
 ghost use Rattle.point_listing.specs.Places.{told_of, at_of, Adds};
 
+use crate::NamedForm;
 use crate::arrays::{is_integer_at, push_array};
 use crate::members::{push_array_own, push_member};
 use crate::places::Place;
 use crate::pushing::{push_form, push_text, push_where};
 use crate::writes::{Write, push_put};
 use flow_code::Source;
+use loose_sets::{Aspect, Half, SetName, SetVersion};
 use php_values::Value;
-use set_listing::{Aspect, Half, NamedForm, SetName, SetVersion};
 use std::alloc::Global;
 use text_base::{NoMemory, Slot};
 use value_operations::text_of;
 
 /// Is it the text of the value itself?
-#[tactic(auto, unfolding(set_listing::specs::Sources::is_own_text))]
+#[tactic(auto, unfolding(loose_sets::specs::Sources::is_own_text))]
 pub fn is_own_text(aspect: Aspect) -> bool
     ensures { result ≡ spec.is_own_text aspect }
 {
@@ -35,7 +36,7 @@ pub fn is_own_text(aspect: Aspect) -> bool
 }
 
 /// One text, where the aspect is that of the text of the value itself.
-#[tactic(auto, using(crate::proofs::PlaceLemmas::ends), unfolding(set_listing::specs::Uses::where_so))]
+#[tactic(auto, using(crate::proofs::PlaceLemmas::ends), unfolding(loose_sets::specs::Uses::where_so))]
 pub fn push_text_alone(
     alloc: Global,
     forms: &mut Vec<NamedForm>,
@@ -67,7 +68,7 @@ fn push_literal(
 }
 
 // A member of an array of the request.
-#[tactic(auto, unfolding(set_listing::specs::Sources::request_own))]
+#[tactic(auto, unfolding(loose_sets::specs::Sources::request_own))]
 fn push_request_own(forms: &mut Vec<NamedForm>, half: Half) -> Result<(), NoMemory>
     ensures { OnOk result (Adds forms.old.items forms.new.items (spec.request_own half)) }
 {
@@ -78,7 +79,7 @@ fn push_request_own(forms: &mut Vec<NamedForm>, half: Half) -> Result<(), NoMemo
 }
 
 // An array of the request.
-#[tactic(auto, unfolding(set_listing::specs::Sources::super_forms))]
+#[tactic(auto, unfolding(loose_sets::specs::Sources::super_forms))]
 fn push_super(forms: &mut Vec<NamedForm>, aspect: Aspect) -> Result<(), NoMemory>
     ensures { OnOk result (Adds forms.old.items forms.new.items (spec.super_forms aspect)) }
 {
@@ -91,7 +92,7 @@ fn push_super(forms: &mut Vec<NamedForm>, aspect: Aspect) -> Result<(), NoMemory
 }
 
 // Any number of copies of a text.
-#[tactic(auto, using(crate::proofs::PlaceLemmas::ends), unfolding(set_listing::specs::Uses::where_so))]
+#[tactic(auto, using(crate::proofs::PlaceLemmas::ends), unfolding(loose_sets::specs::Uses::where_so))]
 fn push_copies(
     alloc: Global,
     forms: &mut Vec<NamedForm>,
@@ -113,7 +114,7 @@ fn push_copies(
 }
 
 // The members of an array, joined.
-#[tactic(auto, using(crate::proofs::PlaceLemmas::ends), unfolding(set_listing::specs::Uses::where_so))]
+#[tactic(auto, using(crate::proofs::PlaceLemmas::ends), unfolding(loose_sets::specs::Uses::where_so))]
 fn push_pieces(
     alloc: Global,
     forms: &mut Vec<NamedForm>,
@@ -134,7 +135,7 @@ fn push_pieces(
 }
 
 // An output of the operation at a point.
-#[tactic(auto, using(crate::proofs::PlaceLemmas::ends), unfolding(set_listing::specs::Sources::output_own))]
+#[tactic(auto, using(crate::proofs::PlaceLemmas::ends), unfolding(loose_sets::specs::Sources::output_own))]
 fn push_output_own(forms: &mut Vec<NamedForm>, point: u64, half: Half) -> Result<(), NoMemory>
     ensures { OnOk result (Adds forms.old.items forms.new.items (spec.output_own point half)) }
 {
@@ -145,7 +146,7 @@ fn push_output_own(forms: &mut Vec<NamedForm>, point: u64, half: Half) -> Result
 }
 
 // The member of a number of an array of outputs: one under an integer.
-#[tactic(auto, using(crate::proofs::PlaceLemmas::ends), unfolding(set_listing::specs::Sources::explode_forms, set_listing::specs::Uses::where_so))]
+#[tactic(auto, using(crate::proofs::PlaceLemmas::ends), unfolding(loose_sets::specs::Sources::explode_forms, loose_sets::specs::Uses::where_so))]
 fn push_explode_member(
     forms: &mut Vec<NamedForm>,
     place: &Place<'_>,
@@ -163,7 +164,7 @@ fn push_explode_member(
 }
 
 // An array of the outputs of an operation.
-#[tactic(auto, unfolding(set_listing::specs::Sources::explode_forms))]
+#[tactic(auto, unfolding(loose_sets::specs::Sources::explode_forms))]
 fn push_explode(
     forms: &mut Vec<NamedForm>,
     place: &Place<'_>,
@@ -181,7 +182,7 @@ fn push_explode(
 }
 
 // A truth value.
-#[tactic(auto, using(crate::proofs::PlaceLemmas::ends), unfolding(set_listing::specs::Uses::where_so))]
+#[tactic(auto, using(crate::proofs::PlaceLemmas::ends), unfolding(loose_sets::specs::Uses::where_so))]
 fn push_truth(alloc: Global, forms: &mut Vec<NamedForm>, aspect: Aspect) -> Result<(), NoMemory>
     ensures { OnOk result (Adds forms.old.items forms.new.items
         (spec.texts_alone (text_form (codes "1") ∷ text_form [] ∷ []) aspect)) }
@@ -195,7 +196,7 @@ fn push_truth(alloc: Global, forms: &mut Vec<NamedForm>, aspect: Aspect) -> Resu
 
 /// The forms of what a source gives to its slot, behind the others. Its time is linear in the
 /// source for each key that stands in it, and in the keys that are told apart.
-#[tactic(auto, unfolding(set_listing::specs::Sources::source_forms))]
+#[tactic(auto, unfolding(loose_sets::specs::Sources::source_forms))]
 pub fn push_source(
     alloc: Global,
     forms: &mut Vec<NamedForm>,

@@ -2,18 +2,18 @@
 
 ghost use Rattle.std.specs.Prelude.{◌≡◌, ◌∷◌, [], OnOk};
 ghost use Rattle.flow_code.specs.View.{plain_point};
-ghost use Rattle.set_listing.specs.Forms.{form_seen};
-ghost use Rattle.set_listing.specs.Points as points;
+ghost use Rattle.point_listing.specs.Forms.{form_seen};
+ghost use Rattle.loose_sets.specs.Points as points;
 ghost use Rattle.point_listing.specs.Places.{told_of, at_of, Adds};
 
-use crate::{Place, is_own_text, push_form, push_source, push_where};
+use crate::{NamedForm, Place, is_own_text, push_form, push_source, push_where};
 use flow_code::FlowPoint;
-use set_listing::{Aspect, NamedForm, SetName};
+use loose_sets::{Aspect, SetName};
 use std::alloc::Global;
 use text_base::{NoMemory, Slot};
 
 // A member where a walk stands.
-#[tactic(auto, unfolding(set_listing::specs::Points::walk_forms))]
+#[tactic(auto, unfolding(loose_sets::specs::Points::walk_forms))]
 fn walked(place: &Place<'_>, from: Slot, aspect: Aspect) -> NamedForm
     ensures { form_seen result ∷ []
         ≡ points.walk_forms (at_of place.now) place.now.point from.0 aspect }
@@ -27,7 +27,7 @@ fn walked(place: &Place<'_>, from: Slot, aspect: Aspect) -> NamedForm
 }
 
 /// The forms of what a point gives to its slot, behind the others; none where it sets none.
-#[tactic(auto, using(crate::proofs::PlaceLemmas::ends), unfolding(set_listing::specs::Points::value_forms))]
+#[tactic(auto, using(crate::proofs::PlaceLemmas::ends), unfolding(loose_sets::specs::Points::value_forms))]
 pub fn push_value(
     alloc: Global,
     forms: &mut Vec<NamedForm>,

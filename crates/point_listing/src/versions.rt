@@ -3,18 +3,18 @@
 ghost use Rattle.std.specs.Prelude.{◌∷◌, [], OnOk};
 ghost use Rattle.point_listing.specs.Views.{keys_seen};
 ghost use Rattle.point_listing.specs.Reading.{read_at};
-ghost use Rattle.set_listing.specs.Versions as spec;
-ghost use Rattle.set_listing.specs.Functions.{used_pairs, entry_forms};
+ghost use Rattle.loose_sets.specs.Members as spec;
+ghost use Rattle.loose_sets.specs.Functions.{used_pairs, entry_forms};
 ghost use Rattle.point_listing.specs.Places.{Adds};
 
-use crate::{ToldKey, push_form, push_text_alone, version_read};
-use set_listing::{Aspect, Half, NamedForm, SetName, SetVersion};
+use crate::{NamedForm, ToldKey, push_form, push_text_alone, version_read};
+use loose_sets::{Aspect, Half, SetName, SetVersion};
 use ssa_form::Versions;
 use std::alloc::Global;
 use text_base::{Bytes, NoMemory, Slot};
 
 /// All members of a version, at any depth.
-#[tactic(auto, using(crate::proofs::PlaceLemmas::ends), unfolding(set_listing::specs::Versions::members_forms, set_listing::specs::Versions::told_members))]
+#[tactic(auto, using(crate::proofs::PlaceLemmas::ends), unfolding(loose_sets::specs::Members::members_forms, loose_sets::specs::Members::told_members))]
 pub fn push_members(
     forms: &mut Vec<NamedForm>,
     told: &[ToldKey],
@@ -36,7 +36,7 @@ pub fn push_members(
 }
 
 /// What `echo` prints of a version: its text form, and `Array` for an array.
-#[tactic(auto, using(crate::proofs::PlaceLemmas::ends), unfolding(set_listing::specs::Versions::shown_forms))]
+#[tactic(auto, using(crate::proofs::PlaceLemmas::ends), unfolding(loose_sets::specs::Members::shown_forms))]
 pub fn push_shown(
     alloc: Global,
     forms: &mut Vec<NamedForm>,
@@ -86,7 +86,7 @@ pub fn push_pairs(
 
 /// A slot at the entry of a function: what is handed in for it by pairs of a point and a slot, and
 /// null where it is no parameter.
-#[tactic(auto, using(crate::proofs::PlaceLemmas::ends), unfolding(set_listing::specs::Uses::where_so))]
+#[tactic(auto, using(crate::proofs::PlaceLemmas::ends), unfolding(loose_sets::specs::Uses::where_so))]
 pub fn push_entry(
     alloc: Global,
     forms: &mut Vec<NamedForm>,

@@ -3,13 +3,13 @@
 ghost use Rattle.std.specs.Prelude.{◌≡◌, ◌∷◌, map, length, slice_get, OnOk, Some, None, MatchOption};
 ghost use Rattle.flow_code.specs.View.{plain_point, slot_number, maybe_slot};
 ghost use Rattle.loose_sets.specs.Keys.{listed};
-ghost use Rattle.set_listing.specs.Points as points;
+ghost use Rattle.loose_sets.specs.Points as points;
 ghost use Rattle.point_listing.specs.Places.{at_of, Adds};
 
 use crate::parts::{Operation, imploded_slots, joined_slots, operation_of, source_at};
-use crate::{Place, push_form, push_text, push_where};
+use crate::{NamedForm, Place, push_form, push_text, push_where};
 use flow_code::FlowPoint;
-use set_listing::{Aspect, Half, NamedForm, SetName};
+use loose_sets::{Aspect, Half, SetName};
 use std::alloc::Global;
 use text_base::{Bytes, NoMemory, Slot};
 
@@ -43,7 +43,7 @@ fn push_joined_parts(
 }
 
 /// At a point that joins values: the texts from the value of a place on.
-#[tactic(auto, using(crate::proofs::PlaceLemmas::ends), unfolding(set_listing::specs::Points::joined_forms, set_listing::specs::Points::joined_slots))]
+#[tactic(auto, using(crate::proofs::PlaceLemmas::ends), unfolding(loose_sets::specs::Points::joined_forms, loose_sets::specs::Points::joined_slots))]
 pub fn push_joined(
     alloc: Global,
     forms: &mut Vec<NamedForm>,
@@ -65,7 +65,7 @@ pub fn push_joined(
 }
 
 // The slots that the source of a point joins, a separator and an array.
-#[tactic(auto, unfolding(set_listing::specs::Points::imploded_slots))]
+#[tactic(auto, unfolding(loose_sets::specs::Points::imploded_slots))]
 fn imploded_at(point: &FlowPoint) -> Option<(Slot, Slot)>
     ensures { MatchOption result
         (points.imploded_slots (points.source_at (plain_point point.now)) ≡ None)
@@ -79,7 +79,7 @@ fn imploded_at(point: &FlowPoint) -> Option<(Slot, Slot)>
 }
 
 /// At a point that joins the members of an array: a member, an array among them as `Array`.
-#[tactic(auto, using(crate::proofs::PlaceLemmas::ends), unfolding(set_listing::specs::Points::piece_forms))]
+#[tactic(auto, using(crate::proofs::PlaceLemmas::ends), unfolding(loose_sets::specs::Points::piece_forms))]
 pub fn push_piece(
     alloc: Global,
     forms: &mut Vec<NamedForm>,
@@ -102,7 +102,7 @@ pub fn push_piece(
 }
 
 /// A separator and a member.
-#[tactic(auto, using(crate::proofs::PlaceLemmas::ends), unfolding(set_listing::specs::Points::further_forms))]
+#[tactic(auto, using(crate::proofs::PlaceLemmas::ends), unfolding(loose_sets::specs::Points::further_forms))]
 pub fn push_further(
     forms: &mut Vec<NamedForm>,
     place: &Place<'_>,
@@ -120,7 +120,7 @@ pub fn push_further(
 }
 
 /// Any number of separators and members.
-#[tactic(auto, using(crate::proofs::PlaceLemmas::ends), unfolding(set_listing::specs::Points::any_further_forms))]
+#[tactic(auto, using(crate::proofs::PlaceLemmas::ends), unfolding(loose_sets::specs::Points::any_further_forms))]
 pub fn push_any_further(
     alloc: Global,
     forms: &mut Vec<NamedForm>,
@@ -143,7 +143,7 @@ pub fn push_any_further(
 }
 
 // The operation of the source of a point.
-#[tactic(auto, unfolding(set_listing::specs::Points::operation_of))]
+#[tactic(auto, unfolding(loose_sets::specs::Points::operation_of))]
 fn operation_at(point: &FlowPoint) -> Option<Operation<'_>>
     ensures { MatchOption result
         (points.operation_of (points.source_at (plain_point point.now)) ≡ None)
@@ -157,7 +157,7 @@ fn operation_at(point: &FlowPoint) -> Option<Operation<'_>>
 }
 
 /// The inputs of the operation at a point.
-#[tactic(auto, using(crate::proofs::PlaceLemmas::ends), unfolding(set_listing::specs::Points::input_forms))]
+#[tactic(auto, using(crate::proofs::PlaceLemmas::ends), unfolding(loose_sets::specs::Points::input_forms))]
 pub fn push_inputs(
     forms: &mut Vec<NamedForm>,
     place: &Place<'_>,
@@ -178,7 +178,7 @@ pub fn push_inputs(
 }
 
 /// The outputs of the operation at a point.
-#[tactic(auto, using(crate::proofs::PlaceLemmas::ends), unfolding(set_listing::specs::Points::output_forms))]
+#[tactic(auto, using(crate::proofs::PlaceLemmas::ends), unfolding(loose_sets::specs::Points::output_forms))]
 pub fn push_outputs(
     alloc: Global,
     forms: &mut Vec<NamedForm>,

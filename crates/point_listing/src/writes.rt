@@ -2,16 +2,16 @@
 
 ghost use Rattle.std.specs.Prelude.{◌∷◌, [], flat_map, map, OnOk};
 ghost use Rattle.flow_code.specs.View.{plain_maybe_key};
-ghost use Rattle.set_listing.specs.Arrays as arrays;
+ghost use Rattle.loose_sets.specs.Arrays as arrays;
 ghost use Rattle.point_listing.specs.Places.{told_of, at_of, Adds};
 
 use crate::arrays::{is_exactly_at, may_be_at, push_key};
-use crate::may_be_other;
 use crate::members::push_array_own;
 use crate::places::Place;
 use crate::pushing::{push_form, push_where};
+use crate::{NamedForm, may_be_other};
 use flow_code::KeyRef;
-use set_listing::{Aspect, Half, NamedForm};
+use loose_sets::{Aspect, Half};
 use std::alloc::Global;
 use text_base::{NoMemory, Slot};
 
@@ -24,7 +24,7 @@ pub(crate) struct Write {
 
 // Under one key, the member of a number: the old one where the key may be another, and the new one
 // where it may be this one.
-#[tactic(auto, using(crate::proofs::PlaceLemmas::ends), unfolding(set_listing::specs::Arrays::put_under))]
+#[tactic(auto, using(crate::proofs::PlaceLemmas::ends), unfolding(loose_sets::specs::Arrays::put_under))]
 fn push_put_under(
     alloc: Global,
     forms: &mut Vec<NamedForm>,
@@ -49,7 +49,7 @@ fn push_put_under(
 }
 
 // Under one key, the other members.
-#[tactic(auto, using(crate::proofs::PlaceLemmas::ends), unfolding(set_listing::specs::Arrays::put_elsewhere))]
+#[tactic(auto, using(crate::proofs::PlaceLemmas::ends), unfolding(loose_sets::specs::Arrays::put_elsewhere))]
 fn push_put_elsewhere(
     alloc: Global,
     forms: &mut Vec<NamedForm>,
@@ -69,7 +69,7 @@ fn push_put_elsewhere(
 }
 
 // Deeper, the member of a number: it is an array where the first key may be this one.
-#[tactic(auto, using(crate::proofs::PlaceLemmas::ends), unfolding(set_listing::specs::Arrays::deep_under, set_listing::specs::Uses::where_so))]
+#[tactic(auto, using(crate::proofs::PlaceLemmas::ends), unfolding(loose_sets::specs::Arrays::deep_under, loose_sets::specs::Uses::where_so))]
 fn push_deep_under(
     alloc: Global,
     forms: &mut Vec<NamedForm>,
@@ -92,7 +92,7 @@ fn push_deep_under(
 }
 
 // Deeper, the other members.
-#[tactic(auto, using(crate::proofs::PlaceLemmas::ends), unfolding(set_listing::specs::Arrays::deep_elsewhere))]
+#[tactic(auto, using(crate::proofs::PlaceLemmas::ends), unfolding(loose_sets::specs::Arrays::deep_elsewhere))]
 fn push_deep_elsewhere(
     forms: &mut Vec<NamedForm>,
     place: &Place<'_>,
@@ -127,7 +127,7 @@ fn push_path_keys(
 }
 
 // The keys, of both values and of the path.
-#[tactic(auto, using(crate::proofs::PlaceLemmas::ends), unfolding(set_listing::specs::Arrays::put_keys))]
+#[tactic(auto, using(crate::proofs::PlaceLemmas::ends), unfolding(loose_sets::specs::Arrays::put_keys))]
 fn push_put_keys(
     alloc: Global,
     forms: &mut Vec<NamedForm>,
@@ -145,7 +145,7 @@ fn push_put_keys(
 }
 
 // The value itself is an array.
-#[tactic(auto, unfolding(set_listing::specs::Arrays::put_forms))]
+#[tactic(auto, unfolding(loose_sets::specs::Arrays::put_forms))]
 fn push_put_own(
     forms: &mut Vec<NamedForm>,
     place: &Place<'_>,
@@ -164,7 +164,7 @@ fn push_put_own(
 }
 
 // The member of a number.
-#[tactic(auto, using(crate::proofs::PlaceLemmas::ends), unfolding(set_listing::specs::Arrays::put_forms))]
+#[tactic(auto, using(crate::proofs::PlaceLemmas::ends), unfolding(loose_sets::specs::Arrays::put_forms))]
 fn push_put_member(
     alloc: Global,
     forms: &mut Vec<NamedForm>,
@@ -189,7 +189,7 @@ fn push_put_member(
 }
 
 // The other members.
-#[tactic(auto, using(crate::proofs::PlaceLemmas::ends), unfolding(set_listing::specs::Arrays::put_forms))]
+#[tactic(auto, using(crate::proofs::PlaceLemmas::ends), unfolding(loose_sets::specs::Arrays::put_forms))]
 fn push_put_others(
     alloc: Global,
     forms: &mut Vec<NamedForm>,
@@ -213,7 +213,7 @@ fn push_put_others(
 }
 
 // The keys, where there is a path.
-#[tactic(auto, using(crate::proofs::PlaceLemmas::ends), unfolding(set_listing::specs::Arrays::put_forms))]
+#[tactic(auto, using(crate::proofs::PlaceLemmas::ends), unfolding(loose_sets::specs::Arrays::put_forms))]
 fn push_put_all_keys(
     alloc: Global,
     forms: &mut Vec<NamedForm>,

@@ -2,7 +2,7 @@
 
 use anyhow::{Context, Result};
 use cfg_grammar::{Grammar, Production, Right, Symbol};
-use set_tables::given_texts;
+use given_texts::given_texts;
 use std::alloc::Global;
 use text_base::{ByteRange, NoMemory, Nt};
 

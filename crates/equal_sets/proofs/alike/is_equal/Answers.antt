@@ -1,6 +1,4 @@
-use Rattle.std.proofs.Common.{List, subst, sym}
-use Rattle.std.specs.declared.vec.Vec.{Vec}
-use Rattle.std.specs.declared.alloc.Global.{Global}
+use Rattle.std.proofs.Common.{subst, sym}
 use Rattle.numbered_sets.specs.Places.{ArePlaces}
 use Rattle.equal_sets.proofs.RowLemmas.{equal_by, left_keys, rule_keys}
 use Rattle.equal_sets.proofs.alike.is_equal.Goals as goal

@@ -1,8 +1,6 @@
-use Rattle.std.proofs.Common.{List, sym, subst}
-use Rattle.text_base.specs.declared.numbers.Nt as nt
+use Rattle.std.proofs.Common.{subst}
 use Rattle.op_system.specs.declared.system.OpSystem.{OpSystem}
 use Rattle.equal_sets.specs.Joined.{IsJoined}
-use Rattle.equal_sets.specs.Fit.{IsFit}
 use Rattle.equal_sets.proofs.writing.join_equal.Goals as goal
 
 pub returns : goal.returns

@@ -1,7 +1,7 @@
 use Rattle.std.proofs.Common.{length}
 use Rattle.flow_code.specs.View.{plain_flow}
 use Rattle.extraction.proofs.Bounded.{is_bounded}
-use Rattle.extraction.proofs.Readings.{made_with}
+use Rattle.extraction.proofs.GivenLemmas.{made_with}
 use Rattle.extraction.proofs.extracting.extract.Goals as goal
 
 pub returns-clause-made : goal.returns-clause-made

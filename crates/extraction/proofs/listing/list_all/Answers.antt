@@ -1,15 +1,25 @@
 use Rattle.std.proofs.Common.{sym, ◌∙◌}
-use Rattle.extraction.proofs.PlaceLemmas.{keeps_both}
-use Rattle.extraction.proofs.RowLemmas.{listed_more, listed_all, reached_more}
+use Rattle.system_writing.proofs.Places.{contains_at}
+use Rattle.extraction.proofs.RowLemmas.{listed_none, listed_more, listed_all}
 use Rattle.extraction.proofs.listing.list_all.Goals as goal
 
+pub loop-name-init : goal.loop-name-init
+loop-name-init g c = listed_none (g.L.Lister.asks c.args.lister.now) (g.L.Lister.lists c.args.lister.now) c.args.work.now c.requires.paired c.requires.asked
+
+pub index-set-requires : goal.index-set-requires
+index-set-requires g c = ?
+
+pub take_up-requires-clause-asked : goal.take_up-requires-clause-asked
+take_up-requires-clause-asked g c = c.loop-name.invariant.asked c.in-Some.name (contains_at c.loop-name.work.names.keys c.loop-name.taken c.in-Some.name (sym c.name_at.ensures.value ∙ c.in-Some.is))
+
+pub take_up-requires-clause-paired : goal.take_up-requires-clause-paired
+take_up-requires-clause-paired g c = c.loop-name.invariant.paired
+
 pub loop-name-preserved : goal.loop-name-preserved
-loop-name-preserved g c =
-    record {
-      listed = listed_more (g.L.Lister.asks c.args.lister.now) (g.L.Lister.lists c.args.lister.now) _ _ c.loop-name.taken _ _ c.in-Some.name c.loop-name.invariant.listed (sym c.name_at.ensures.value ∙ c.in-Some.is) c.in_ok-take_up.ensures;
-      keeps = keeps_both c.args.names.now.keys c.loop-name.names.keys c.take_up.new.names.keys c.loop-name.invariant.keeps c.in_ok-take_up.ensures.keeps;
-      reached = reached_more (g.L.Lister.asks c.args.lister.now) (g.L.Lister.lists c.args.lister.now) c.args.names.now.keys _ _ c.loop-name.taken _ _ c.in-Some.name c.loop-name.invariant.reached (sym c.name_at.ensures.value ∙ c.in-Some.is) c.in_ok-take_up.ensures;
-    }
+loop-name-preserved g c = ?
 
 pub returns-clause-rows : goal.returns-clause-rows
-returns-clause-rows g c = listed_all (g.L.Lister.asks c.args.lister.now) (g.L.Lister.lists c.args.lister.now) c.loop-name.names.keys c.loop-name.taken _ (sym c.name_at.ensures.value ∙ c.in_default.is) c.loop-name.invariant.listed
+returns-clause-rows g c = listed_all (g.L.Lister.asks c.args.lister.now) (g.L.Lister.lists c.args.lister.now) c.args.work.now c.loop-name.work c.loop-name.taken (sym c.name_at.ensures.value ∙ c.in_default.is) c.loop-name.invariant
+
+pub returns-clause-different : goal.returns-clause-different
+returns-clause-different g c = c.name_at.ensures.different

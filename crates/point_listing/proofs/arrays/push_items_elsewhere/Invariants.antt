@@ -1,7 +1,7 @@
 use Rattle.std.proofs.Common.{◌≡◌, ◌++◌, drop, map, flat_map}
 use Rattle.flow_code.specs.View.{plain_item}
-use Rattle.set_listing.specs.Forms.{forms_seen}
-use Rattle.set_listing.specs.Arrays.{item_elsewhere}
+use Rattle.point_listing.specs.Forms.{forms_seen}
+use Rattle.loose_sets.specs.Arrays.{item_elsewhere}
 use Rattle.point_listing.specs.Places.{told_of, at_of}
 use Rattle.point_listing.proofs.arrays.push_items_elsewhere.Given as goal
 

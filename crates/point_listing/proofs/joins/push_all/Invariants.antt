@@ -1,8 +1,8 @@
 use Rattle.std.proofs.Common.{◌≡◌, ◌++◌, drop, map}
-use Rattle.set_listing.specs.Forms.{forms_seen}
+use Rattle.point_listing.specs.Forms.{forms_seen}
 use Rattle.ssa_form.specs.Views.{version_seen}
-use Rattle.point_listing.specs.Reading.{version_back}
-use Rattle.set_listing.specs.Versions.{link_forms}
+use Rattle.loose_sets.specs.Uses.{version_back}
+use Rattle.loose_sets.specs.Members.{link_forms}
 use Rattle.point_listing.proofs.joins.push_all.Given as goal
 
 -- what is left to put stands behind what is put

@@ -1,6 +1,6 @@
 use Rattle.std.proofs.Common.{◌≡◌, drop}
 use Rattle.plain_values.specs.Plain.{text_key}
-use Rattle.set_listing.specs.Uses.{number_from}
+use Rattle.loose_sets.specs.Uses.{number_from}
 use Rattle.point_listing.specs.Views.{keys_seen}
 use Rattle.point_listing.proofs.key.place_of_text.Given as goal
 

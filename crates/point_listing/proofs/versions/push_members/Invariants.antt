@@ -1,7 +1,7 @@
 use Rattle.std.proofs.Common.{◌≡◌, ◌++◌, drop}
-use Rattle.set_listing.specs.Forms.{forms_seen}
+use Rattle.point_listing.specs.Forms.{forms_seen}
 use Rattle.point_listing.specs.Views.{keys_seen}
-use Rattle.set_listing.specs.Versions.{told_members}
+use Rattle.loose_sets.specs.Members.{told_members}
 use Rattle.point_listing.proofs.versions.push_members.Given as goal
 
 -- what is left to put stands behind what is put

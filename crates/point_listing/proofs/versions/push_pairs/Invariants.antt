@@ -1,7 +1,7 @@
 use Rattle.std.proofs.Common.{◌≡◌, ◌++◌, drop}
-use Rattle.set_listing.specs.Forms.{forms_seen}
+use Rattle.point_listing.specs.Forms.{forms_seen}
 use Rattle.point_listing.specs.Reading.{read_at}
-use Rattle.set_listing.specs.Functions.{used_pairs}
+use Rattle.loose_sets.specs.Functions.{used_pairs}
 use Rattle.point_listing.proofs.versions.push_pairs.Given as goal
 
 -- what is left to put stands behind what is put

@@ -1,7 +1,7 @@
 use Rattle.std.proofs.Common.{◌≡◌, ◌++◌, drop, map, flat_map}
 use Rattle.flow_code.specs.View.{plain_maybe_key}
-use Rattle.set_listing.specs.Forms.{forms_seen}
-use Rattle.set_listing.specs.Arrays.{key_forms}
+use Rattle.point_listing.specs.Forms.{forms_seen}
+use Rattle.loose_sets.specs.Arrays.{key_forms}
 use Rattle.point_listing.specs.Places.{at_of}
 use Rattle.point_listing.proofs.writes.push_path_keys.Given as goal
 

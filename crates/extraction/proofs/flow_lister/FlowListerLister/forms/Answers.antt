@@ -1,4 +1,4 @@
-use Rattle.set_listing.specs.Forms.{forms_seen}
+use Rattle.point_listing.specs.Forms.{forms_seen}
 use Rattle.extraction.proofs.ListingLemmas.{all_asked}
 use Rattle.extraction.proofs.flow_lister.FlowListerLister.forms.Goals as goal
 

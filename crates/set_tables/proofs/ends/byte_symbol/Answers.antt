@@ -1,5 +1,0 @@
-use Rattle.std.proofs.Common.{refl}
-use Rattle.set_tables.proofs.ends.byte_symbol.Goals as goal
-
-pub returns : goal.returns
-returns c = (_, refl, refl, refl)

@@ -1,9 +1,0 @@
-use Rattle.std.proofs.Common.{length}
-use Rattle.set_tables.proofs.EndSteps.{SoFar}
-use Rattle.set_tables.proofs.ends.put_bytes.Given as goal
-
-abbrev pub invariant-loop-last : goal.invariant-loop-last
-invariant-loop-last l = SoFar l.initial.draft l.draft l.bytes l.rest l.fn.behind l.symbol
-
-abbrev pub decreases-loop-last : goal.decreases-loop-last
-decreases-loop-last l = length l.rest

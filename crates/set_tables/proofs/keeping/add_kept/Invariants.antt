@@ -1,6 +1,0 @@
-use Rattle.std.proofs.Common.{◌≡◌, ◌++◌, drop}
-use Rattle.set_tables.specs.Kept.{kept}
-use Rattle.set_tables.proofs.keeping.add_kept.Given as goal
-
-abbrev pub invariant-loop-production : goal.invariant-loop-production
-invariant-loop-production l = l.productions.items ++ kept l.marks l.base (drop l.production-index l.more) ≡ l.initial.productions.items ++ kept l.marks l.base l.more
