@@ -1,4 +1,4 @@
-//! Tests of text_base, derivatives, cfg_grammar, op_system, fst_core and script_maker, with ample
+//! Tests of text_base, derivatives, page_policy, cfg_grammar, op_system, fst_core and script_maker, with ample
 //! memory and with values written down by hand.
 //! And of command_words: a table of words and what they ask for.
 //! Used by: none; it stands at the top.
@@ -12,6 +12,8 @@ mod bytes;
 mod expressions;
 #[cfg(test)]
 mod grammars;
+#[cfg(test)]
+mod policies;
 #[cfg(test)]
 mod scripts;
 #[cfg(test)]

@@ -56,4 +56,11 @@ pub enum CommandLine<'a> {
         limit: u32,
         by_nesting: bool,
     },
+    /// Holds the pages of a script against the pattern in the file of this name.
+    Match {
+        file: &'a str,
+        policy: &'a str,
+        root: Option<&'a str>,
+        stubs: Option<&'a str>,
+    },
 }

@@ -8,6 +8,7 @@ use crate::grammars::make_grammar;
 use crate::lists::check_list;
 use crate::made::check_made;
 use crate::making::make_script;
+use crate::matching::match_script;
 use crate::page::judge_page;
 use crate::running::run_script;
 use crate::script::check_script;
@@ -52,6 +53,7 @@ pub(crate) fn result_of<F: Files>(
             goal,
             limit,
         } => check_list(alloc, file, document_type, goal, limit, files),
+        Task::ScriptMatch { file, policy } => match_script(alloc, file, policy, files),
         Task::Help => Ok(Reply::Text(help_message(alloc)?)),
         Task::Version => Ok(Reply::Text(version_message(alloc)?)),
         Task::Usage { reason: None } => Err(usage_refusal(alloc, None)),

@@ -20,6 +20,16 @@ use Rattle.program_files.specs.declared.refusal.LoadRefusal.TheVariants as load
 use Rattle.program_loader.specs.Causes.{IsLoadCause}
 use Rattle.program_loader.specs.Told.{IsLoaded, HoldsProgram, AreShort, StubsAreShort}
 use Rattle.dtd_model.specs.Table.{Table}
+use Rattle.page_policy.specs.Patterns.{Pattern}
+use Rattle.page_policy.specs.Grammar.{Spells}
+use Rattle.page_policy.specs.Refusals.{deep_at, IsTaken, IsCause as IsPolicyCause}
+use Rattle.page_policy.specs.declared.refusal.PolicyRefusal.{PolicyRefusal}
+use Rattle.page_policy.specs.declared.refusal.PolicyRefusal.TheVariants as policy
+use Rattle.page_policy.specs.declared.refusal.TheConstants.{POLICY_LIMIT}
+use Rattle.page_policy.proofs.SpellLemmas.{spell_one}
+use Rattle.policy_decision.specs.Answers.{IsPolicyAnswer}
+use Rattle.policy_decision.specs.declared.answer.PolicyAnswer.{PolicyAnswer}
+use Rattle.policy_decision.specs.declared.answer.PolicyAnswer.TheVariants as matched
 use Rattle.request_reading.specs.Outcome.{Outcome, not_json, not_request, not_admitted, stands_for, outcome}
 use Rattle.request_reading.specs.Causes.{IsCause}
 use Rattle.request_reading.specs.declared.refusal.RequestRefusal.{RequestRefusal}
@@ -37,18 +47,20 @@ use Rattle.script_decision.specs.declared.shown.ShownAnswer.{ShownAnswer}
 use Rattle.script_decision.specs.Shown.{IsShownAnswer}
 use Rattle.phpsa_texts.specs.declared.exit.Exit.{Exit}
 use Rattle.phpsa_texts.specs.declared.exit.Exit.TheVariants.{Input, Memory}
-use Rattle.phpsa_texts.specs.Statuses.{judgment_status, load_status, file_status, request_status, definition_status, list_status, site_status}
+use Rattle.phpsa_texts.specs.Statuses.{judgment_status, load_status, file_status, request_status, definition_status, policy_status, list_status, site_status}
 use Rattle.site_check.specs.declared.list_refusal.ListRefusal.{ListRefusal}
 use Rattle.site_check.specs.Listed.{IsList, IsNoList}
-use Rattle.phpsa_tasks.specs.Tasks.{ScriptFile, root_of, Task, script_check, page_check, script_making, made_check, script_run, grammar_making, list_check, help_telling, version_telling, usage}
+use Rattle.phpsa_tasks.specs.Tasks.{ScriptFile, root_of, Task, script_check, page_check, script_making, made_check, script_run, grammar_making, list_check, script_match, help_telling, version_telling, usage}
 use Rattle.phpsa_tasks.specs.Files.{HoldsShortFile}
 use Rattle.phpsa_tasks.specs.Requests.{no_request, FindsRequest, HoldsRequest, unread, no_request_in, RefusesRequest}
-use Rattle.phpsa_tasks.specs.Subjects.{ProgramBy, PageBy, ProgramFor, ListBy, Subject, made_name, made_file, only_made, Finds, HoldsShortProgram, HoldsProgramInside, HoldsTable, Holds, IsSmall, IsWithin}
+use Rattle.phpsa_tasks.specs.Policies.{FindsPattern, HoldsPattern, pattern_unread, no_pattern_in, RefusesPattern}
+use Rattle.phpsa_tasks.specs.PolicyAnswers.{match_status}
+use Rattle.phpsa_tasks.specs.Subjects.{ProgramBy, PageBy, ProgramFor, ProgramAgainst, ListBy, Subject, made_name, made_file, only_made, Finds, HoldsShortProgram, HoldsProgramInside, HoldsTable, Holds, IsSmall, IsWithin}
 use Rattle.phpsa_tasks.specs.ScriptAnswers.{answer_status}
 use Rattle.phpsa_tasks.specs.Replies.{end_status, HasManyItems, IsJudged, IsReplyOf, IsHaltOf}
-use Rattle.phpsa_tasks.specs.Causes.{definition_call, RefusesDefinition, not_defined, large_models, RefusesScript, not_loaded, lacks_definition, has_long_text, not_read, page_lacks_definition, no_size, made_refused, list_unread, no_list, list_lacks_definition, Refuses}
+use Rattle.phpsa_tasks.specs.Causes.{definition_call, RefusesDefinition, not_defined, large_models, RefusesScript, not_loaded, lacks_definition, has_long_text, not_read, page_lacks_definition, no_size, made_refused, list_unread, no_list, list_lacks_definition, RefusesLongText, Refuses}
 use Rattle.phpsa_tasks.specs.Counted.{from_misses}
-use Rattle.phpsa_tasks.specs.Answered.{IsScriptVerdict, PassesScriptLimit, PassesGrammarLimit, IsListVerdict, StopsAtScript, IsVerdict, PassesLimit, IsStopped}
+use Rattle.phpsa_tasks.specs.Answered.{IsScriptVerdict, PassesScriptLimit, PassesGrammarLimit, IsMatchVerdict, PassesMatchLimit, IsListVerdict, StopsAtScript, IsVerdict, PassesLimit, IsStopped}
 use Rattle.script_maker.specs.Made.{made}
 use Rattle.phpsa_tasks.proofs.Alone.{alone_stays_inside}
 use Rattle.phpsa_tasks.proofs.ListLemmas.{LoadedStays, list_verdict, not_list}
@@ -136,6 +148,32 @@ own_run one content file request x y h r found finds P is =
     subst (λ (p : PlainProgram). P p x.request) (sym (one content file.name file.stubs x.program y.program h.holds found))
     (subst (λ (q : PlainRequest). P y.program q) (sym (own_request content request x.request y.request r finds)) is)
 
+-- and so of the program and the pattern that its pages are held against
+own_pattern : (content : Content) (name : List ℕ) (x y : Pattern) → HoldsPattern content name x → FindsPattern content name y → x ≡ y
+own_pattern content name x y held (bytes, told, taken) =
+    let same : held.bytes ≡ bytes = one_content content name held.bytes bytes held.file.told told in
+    spell_one bytes x y (subst (λ (b : List ℕ). Spells b x) same held.taken.spelled) taken.spelled
+
+pub own_match : OneProgram → (content : Content) (file : ScriptFile) (name : List ℕ) (x y : ProgramAgainst) → HoldsShortProgram content file x.program
+    → HoldsPattern content name x.pattern → IsLoaded content file.name file.stubs y.program → FindsPattern content name y.pattern
+    → (P : PlainProgram → Pattern → Type 0) → P y.program y.pattern → P x.program x.pattern
+own_match one content file name x y h t found finds P is =
+    subst (λ (p : PlainProgram). P p x.pattern) (sym (one content file.name file.stubs x.program y.program h.holds found))
+    (subst (λ (q : Pattern). P y.program q) (sym (own_pattern content name x.pattern y.pattern t finds)) is)
+
+-- the status of an answer is what the program comes to by the pattern, or says that a count was passed
+match_verdict : (p : Pattern) (program : PlainProgram) (answer : PolicyAnswer) → IsPolicyAnswer p program answer
+    → IsMatchVerdict p program (match_status answer) ⊎ PassesMatchLimit p program (match_status answer)
+match_verdict p program matched.Yes is = inl is
+match_verdict p program (matched.No shown) is = inl (is.page, is.loose, is.misses)
+match_verdict p program (matched.Items count) is = inr (matched.Items count, is, refl)
+match_verdict p program (matched.States count) is = inr (matched.States count, is, refl)
+
+match_verdict_at : (p : Pattern) (program : PlainProgram) (answer : PolicyAnswer) (status : Exit) → status ≡ match_status answer → IsPolicyAnswer p program answer
+    → IsMatchVerdict p program status ⊎ PassesMatchLimit p program status
+match_verdict_at p program answer status status_is is =
+    subst (λ (s : Exit). IsMatchVerdict p program s ⊎ PassesMatchLimit p program s) (sym status_is) (match_verdict p program answer is)
+
 -- a limit that is passed stops the task
 stopped : (content : Content) (task : Task) (x : Subject task) (status : Exit) → IsVerdict content task x status ⊎ PassesLimit content task x status
     → IsVerdict content task x status ⊎ IsStopped content task x status
@@ -169,6 +207,10 @@ held_reply one stay files (list_check file d goal limit) x y status text (h, t) 
     (own_list files.content file.name d x y h t found has
     (λ (l : List ℕ) (s : Table). IsListVerdict files.content file.stubs goal s l (site_status lines) ⊎ StopsAtScript files.content file goal s limit l (site_status lines))
     (list_verdict stay files file goal limit y lines good are)))
+held_reply one stay files (script_match file policy) x y status text (h, t) (found, finds) (answer, is, status_is, text_is) =
+    stopped files.content (script_match file policy) x status
+    (match_verdict_at x.pattern x.program answer status status_is
+    (own_match one files.content file policy x y h t found.loaded finds (λ (p : PlainProgram) (q : Pattern). IsPolicyAnswer q p answer) is.0))
 held_reply one stay files help_telling x y status text h f (status_is, text_is) = inl status_is
 held_reply one stay files version_telling x y status text h f (status_is, text_is) = inl status_is
 held_reply one stay files usage x y status text h f r = absurd r
@@ -184,6 +226,7 @@ held_halt one content (script_run file request steps) x y status printed text (h
     inl (own_run one content file request x y h r found.loaded finds (λ (p : PlainProgram) (q : PlainRequest). status ≡ end_status (meaning p q steps).end) status_is)
 held_halt one content (grammar_making file) x y status printed text h f r = absurd r
 held_halt one content (list_check file d goal limit) x y status printed text h f r = absurd r
+held_halt one content (script_match file policy) x y status printed text h f r = absurd r
 held_halt one content help_telling x y status printed text h f r = absurd r
 held_halt one content version_telling x y status printed text h f r = absurd r
 held_halt one content usage x y status printed text h f r = absurd r
@@ -221,6 +264,23 @@ request_memory files (Some name) x status text held calm (unread fault why is te
 request_memory files (Some name) x status text held calm (no_request_in bytes refusal told why is text_is) =
     let same : bytes ≡ held.bytes = sym (one_content files.content name held.bytes bytes held.file.told told) in
     is ∙ asked_memory refusal (outcome bytes) x (ap outcome same ∙ held.is) why
+
+-- a pattern that is held is refused for want of memory alone
+taken_memory : (bytes : List ℕ) (p : Pattern) (refusal : PolicyRefusal) → IsTaken bytes p → IsPolicyCause bytes refusal → policy_status refusal ≡ Memory
+taken_memory bytes p (policy.NotPattern at) taken why = absurd (why.2 p taken.spelled)
+taken_memory bytes p (policy.TooLong len) taken why =
+    let short : length bytes ≤ POLICY_LIMIT = taken.short in
+    let long : POLICY_LIMIT < length bytes = why.1 in
+    absurd (omega (arith, short, long))
+taken_memory bytes p (policy.TooDeep at) taken why = let none : None ≡ Some at = sym taken.shallow ∙ why.1 in absurd cc
+taken_memory bytes p policy.Memory taken why = refl
+
+pattern_memory : (files : SourceCall) (name : List ℕ) (p : Pattern) (status : Exit) (text : List ℕ) → HoldsPattern files.content name p
+    → (Rises files.faults files.faults' → ⊥) → RefusesPattern files name status text → status ≡ Memory
+pattern_memory files name p status text held calm (pattern_unread fault why is text_is) = is ∙ file_memory files name held.bytes fault held.file calm why
+pattern_memory files name p status text held calm (no_pattern_in bytes refusal told why is text_is) =
+    let same : bytes ≡ held.bytes = sym (one_content files.content name held.bytes bytes held.file.told told) in
+    is ∙ taken_memory held.bytes p refusal held.taken (subst (λ (b : List ℕ). IsPolicyCause b refusal) same why)
 
 want_status : (cause : DefinitionRefusal) → IsWant cause → definition_status cause ≡ Memory
 want_status (definition.File fault) is = ap (λ (f : DtdRefusal). definition_status (definition.File f)) is
@@ -290,6 +350,16 @@ held_refusal laws files (list_check file d goal limit) x status text calm (h, t)
     (subst (λ (l : List ℕ). IsNoList l refusal) (sym (one_content files.content file.name x.list list h.told told)) why)
 held_refusal laws files (list_check file d goal limit) x status text calm (h, t) (w, hold) (list_lacks_definition list cause told is why status_is text_is) =
     inr (inr (definition_memory files d x.table status text t w calm (not_defined cause why status_is text_is)))
+held_refusal laws files (script_match file name) x status text calm (h, t) w (inl (cause, why, status_is, text_is)) =
+    inr (inr (status_is ∙ unloaded_memory laws files file x.program cause w calm why))
+held_refusal laws files (script_match file name) x status text calm (h, t) w (inr (inl (program, found, (misses, behind, why), read))) =
+    inr (inr (pattern_memory (from_misses misses files) name x.pattern status text t calm why))
+held_refusal laws files (script_match file name) x status text calm (h, t) w (inr (inr l)) = behind l.refuses
+  where
+    behind : RefusesLongText files file status text → IsVerdict files.content (script_match file name) x status ⊎ IsStopped files.content (script_match file name) x status
+    behind (program, found, long, status_is, text_is) =
+        let own : HasLongText x.program = subst HasLongText (sym (laws.one_program files.content file.name file.stubs x.program program h.holds found.loaded)) long in
+        inr (inl (subst (PassesMatchLimit x.pattern x.program) (sym status_is) own))
 held_refusal laws files help_telling x status text calm h w why = absurd why
 held_refusal laws files version_telling x status text calm h w why = absurd why
 held_refusal laws files usage x status text calm h w (status_is, text_is) = inl (subst (IsVerdict files.content usage tt) (sym status_is) tt)

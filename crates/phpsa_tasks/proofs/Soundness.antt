@@ -12,6 +12,11 @@ use Rattle.page_decision.specs.declared.goal.Goal.{Goal}
 use Rattle.script_decision.specs.Answers.{RunsAreGood}
 use Rattle.script_decision.specs.declared.shown.ShownAnswer.{ShownAnswer}
 use Rattle.script_decision.specs.Shown.{ShownSaysOfRuns}
+use Rattle.page_policy.specs.Patterns.{Pattern}
+use Rattle.policy_decision.specs.Answers.{RunsFit, SaysOfRuns}
+use Rattle.policy_decision.specs.declared.answer.PolicyAnswer.{PolicyAnswer}
+use Rattle.policy_decision.specs.declared.answer.PolicyAnswer.TheVariants as matched
+use Rattle.phpsa_tasks.specs.PolicyAnswers.{match_status}
 use Rattle.program_files.specs.Source.{SourceCall}
 use Rattle.program_loader.specs.Told.{IsLoaded}
 use Rattle.site_check.specs.Listed.{names_in}
@@ -19,14 +24,14 @@ use Rattle.document_types.specs.DocumentTypes.{strict_type}
 use Rattle.phpsa_texts.specs.declared.exit.Exit.{Exit}
 use Rattle.phpsa_texts.specs.declared.exit.Exit.TheVariants.{Done}
 use Rattle.phpsa_texts.specs.Statuses.{judgment_status, fault_status}
-use Rattle.phpsa_tasks.specs.Tasks.{Task, script_check, page_check, script_making, made_check, script_run, grammar_making, list_check, help_telling, version_telling, usage, AsksFor}
+use Rattle.phpsa_tasks.specs.Tasks.{Task, script_check, page_check, script_making, made_check, script_run, grammar_making, list_check, script_match, help_telling, version_telling, usage, AsksFor}
 use Rattle.phpsa_tasks.specs.Call.{Call}
 use Rattle.phpsa_tasks.specs.Subjects.{Subject, made_file, only_made, Finds, Holds}
 use Rattle.phpsa_tasks.specs.ScriptAnswers.{answer_status}
 use Rattle.phpsa_tasks.specs.Replies.{end_status, IsEarly, IsJudged, IsReplyOf, IsHaltOf, Replies, Halts}
 use Rattle.phpsa_tasks.specs.Endings.{OwesRefusal, of_task, wants_memory, Ends, replied, refused, halted, by_out, by_err, no_memory}
 use Rattle.phpsa_tasks.specs.Sound.{Means, IsSound}
-use Rattle.phpsa_tasks.proofs.Held.{OneProgram, own_program, own_page, own_list, own_run}
+use Rattle.phpsa_tasks.proofs.Held.{OneProgram, own_program, own_page, own_list, own_run, own_match}
 use Rattle.phpsa_tasks.proofs.ListLemmas.{LoadedStays, list_means}
 use Rattle.phpsa_tasks.proofs.Never.{never_done}
 use Rattle.phpsa_tasks.proofs.Answers.{OneTask, the_reply, the_halt}
@@ -39,6 +44,13 @@ runs_of goal table program (ShownAnswer.No shown) e says = absurd cc
 runs_of goal table program (ShownAnswer.Pairs count height) e says = absurd cc
 runs_of goal table program (ShownAnswer.Tags count height) e says = absurd cc
 runs_of goal table program (ShownAnswer.Items count) e says = absurd cc
+
+-- and of runs by a pattern
+fits_of : (p : Pattern) (program : PlainProgram) (answer : PolicyAnswer) → match_status answer ≡ Done → SaysOfRuns p program answer → RunsFit p program
+fits_of p program matched.Yes e says = says
+fits_of p program (matched.No shown) e says = absurd cc
+fits_of p program (matched.Items count) e says = absurd cc
+fits_of p program (matched.States count) e says = absurd cc
 
 -- and of a page
 judged_valid : (table : Table) (page : List ℕ) (valid : Bool) → judgment_status valid ≡ Done → IsJudged table page valid → Valid table page
@@ -63,6 +75,8 @@ reply_means one stay files (list_check file d goal limit) x y text (h, t) (found
     own_list files.content file.name d x y h t found has
     (λ (l : List ℕ) (s : Table). (name : List ℕ) → Contains (names_in l) name → (program : PlainProgram) × IsLoaded files.content name file.stubs program × RunsAreGood goal s program)
     (list_means stay files file goal limit y lines are status_is)
+reply_means one stay files (script_match file name) x y text (h, t) (found, finds) (answer, is, status_is, text_is) =
+    own_match one files.content file name x y h t found.loaded finds (λ (p : PlainProgram) (q : Pattern). RunsFit q p) (fits_of y.pattern y.program answer (sym status_is) is.1)
 reply_means one stay files help_telling x y text h f r = tt
 reply_means one stay files version_telling x y text h f r = tt
 reply_means one stay files usage x y text h f r = absurd r
@@ -98,6 +112,7 @@ halted_done (made_check n) x printed text r = r
 halted_done (script_run file request steps) x printed text (early, is, printed_is, text_is) = early_done _ early is
 halted_done (grammar_making file) x printed text r = r
 halted_done (list_check file d goal limit) x printed text r = r
+halted_done (script_match file name) x printed text r = r
 halted_done help_telling x printed text r = r
 halted_done version_telling x printed text r = r
 halted_done usage x printed text r = r

@@ -1,7 +1,7 @@
 -- What is to be done for what words ask for; this project's own.
 use Rattle.std.specs.Prelude.{◌≡◌, ℕ, Bool, true, false, List, Option}
 use Rattle.io_edge.specs.Names.{root_for}
-use Rattle.command_words.specs.Asked.{Asked, help, version, check, run, page, grammar, make, site, Asks, AsksNothing}
+use Rattle.command_words.specs.Asked.{Asked, help, version, check, run, page, grammar, make, site, match_pattern, Asks, AsksNothing}
 use Rattle.document_types.specs.DocumentTypes.{NamedType, named_type}
 use Rattle.page_decision.specs.declared.goal.Goal.{Goal}
 use Rattle.page_decision.specs.declared.goal.Goal.TheVariants.{Valid, Nested}
@@ -29,8 +29,8 @@ root_of file = root_for file.root file.name
 
 -- a script is decided by a goal, with a limit on the sums of a nonterminal; a page is judged; a script is made, or made and decided; a
 -- script is run, for the request of a file or for one of empty arrays, with so many units; the grammar of the pages of a script is written;
--- each script of a list is decided, with the root and the stubs that stand here beside the list; the commands, or the version, are told; or
--- nothing is asked for, and the usage is told
+-- each script of a list is decided, with the root and the stubs that stand here beside the list; the pages of a script are held against the
+-- pattern of a file; the commands, or the version, are told; or nothing is asked for, and the usage is told
 pub data Task : Type 0 where
   script_check : (file : ScriptFile) (document_type : NamedType) (goal : Goal) (limit : ℕ) (form : AnswerForm) → Task
   page_check : (file : List ℕ) (document_type : NamedType) → Task
@@ -39,6 +39,7 @@ pub data Task : Type 0 where
   script_run : (file : ScriptFile) (request : Option (List ℕ)) (steps : ℕ) → Task
   grammar_making : (file : ScriptFile) → Task
   list_check : (file : ScriptFile) (document_type : NamedType) (goal : Goal) (limit : ℕ) → Task
+  script_match : (file : ScriptFile) (policy : List ℕ) → Task
   help_telling : Task
   version_telling : Task
   usage : Task
@@ -64,6 +65,7 @@ task_of (make functions true) = made_check functions
 task_of (make functions false) = script_making functions
 task_of (site file definition root stubs limit by_nesting) =
     list_check (script_file file root stubs) (named_type root definition) (goal_of by_nesting) limit
+task_of (match_pattern file policy root stubs) = script_match (script_file file root stubs) policy
 task_of help = help_telling
 task_of version = version_telling
 

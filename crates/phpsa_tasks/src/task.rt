@@ -64,6 +64,11 @@ pub enum Task<'a> {
         goal: Goal,
         limit: u64,
     },
+    /// The pages of the script of a file are held against the pattern of another.
+    ScriptMatch {
+        file: ScriptFile<'a>,
+        policy: &'a str,
+    },
     /// The commands and their options are told.
     Help,
     /// The version of the program is told.
@@ -172,6 +177,19 @@ pub(crate) fn task_of<'a>(line: CommandLine<'a>) -> Task<'a>
             document_type: DocumentType::named(root, definition),
             goal: goal_of(by_nesting),
             limit: u64::from(limit),
+        },
+        CommandLine::Match {
+            file,
+            policy,
+            root,
+            stubs,
+        } => Task::ScriptMatch {
+            file: ScriptFile {
+                name: file,
+                root,
+                stubs,
+            },
+            policy,
         },
         CommandLine::Help => Task::Help,
         CommandLine::Version => Task::Version,

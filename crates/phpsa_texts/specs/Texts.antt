@@ -16,6 +16,8 @@ use Rattle.site_check.specs.declared.list_refusal.ListRefusal.{ListRefusal}
 use Rattle.site_check.specs.declared.list_refusal.ListRefusal.TheVariants as listing
 use Rattle.request_reading.specs.declared.refusal.RequestRefusal.{RequestRefusal}
 use Rattle.request_reading.specs.declared.refusal.RequestRefusal.TheVariants as request
+use Rattle.page_policy.specs.declared.refusal.PolicyRefusal.{PolicyRefusal}
+use Rattle.page_policy.specs.declared.refusal.PolicyRefusal.TheVariants as policy
 use Rattle.dtd_reader.specs.declared.refusal.DtdRefusal.{DtdRefusal}
 use Rattle.dtd_reader.specs.declared.refusal.DtdRefusal.TheVariants as dtd
 use Rattle.call_options.specs.Reading.{file_name}
@@ -66,6 +68,10 @@ abbrev pub passed_text : PassedCount → List ℕ
 passed_text (passed.Pairs count height) = sums_text (codes "pairs") count height
 passed_text (passed.Tags count height) = sums_text (codes "tags") count height
 passed_text (passed.Items count) = codes "undecided items " ++ decimal count ++ 10 ∷ []
+
+-- on `out`, where a pattern has so many derivatives, over the limit
+abbrev pub many_states_text : ℕ → List ℕ
+many_states_text count = codes "undecided states " ++ decimal count ++ 10 ∷ []
 
 -- on `out`, where a stated count was passed, as JSON
 abbrev pub passed_json : PassedCount → List ℕ
@@ -265,6 +271,18 @@ spent_text steps = number_text (codes "Spent") steps
 abbrev pub deep_text : List ℕ
 deep_text = number_text (codes "Deep") CALL_LIMIT
 
+-- `Policy KIND`
+abbrev pub policy_kind : List ℕ → List ℕ
+policy_kind kind = codes "Policy " ++ kind
+
+-- on `err`, where a file spells no pattern that is taken: the place of what cannot stand there, from 0, its length, or the place of the first
+-- bracket that is one too many
+abbrev pub policy_text : PolicyRefusal → List ℕ
+policy_text (policy.NotPattern at) = number_text (policy_kind (codes "NotPattern")) at
+policy_text (policy.TooLong len) = number_text (policy_kind (codes "TooLong")) len
+policy_text (policy.TooDeep at) = number_text (policy_kind (codes "TooDeep")) at
+policy_text policy.Memory = memory_text
+
 -- on `err`, where a script cannot have so many functions
 abbrev pub size_text : ℕ → List ℕ
 size_text functions = number_text (codes "Size") functions
@@ -307,6 +325,10 @@ grammar_usage = codes "phpsa grammar FILE [--root FOLDER] [--stubs FILE]" ++ 10 
 abbrev pub make_usage : List ℕ
 make_usage = codes "phpsa make N [--check]" ++ 10 ∷ []
 
+-- what `match` takes
+abbrev pub match_usage : List ℕ
+match_usage = codes "phpsa match FILE --policy FILE [--root FOLDER] [--stubs FILE]" ++ 10 ∷ []
+
 -- what `site` takes
 abbrev pub site_usage : List ℕ
 site_usage = codes "phpsa site FILE [--dtd D] [--limit N] [--nesting] [--root FOLDER] [--stubs FILE]" ++ 10 ∷ []
@@ -323,4 +345,4 @@ reason_text (Some line) = shown_name line ++ 10 ∷ []
 -- on `err`, where words ask for nothing: its name, what is wrong, and a line for each command
 abbrev pub usage_text : Option (List ℕ) → List ℕ
 usage_text reason = codes "phpsa: Usage" ++ 10
-    ∷ (reason_text reason ++ (check_usage ++ (run_usage ++ (page_usage ++ (grammar_usage ++ (make_usage ++ (site_usage ++ help_usage)))))))
+    ∷ (reason_text reason ++ (check_usage ++ (run_usage ++ (page_usage ++ (grammar_usage ++ (make_usage ++ (match_usage ++ (site_usage ++ help_usage))))))))

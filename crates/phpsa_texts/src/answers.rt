@@ -4,7 +4,7 @@ ghost use Rattle.std.specs.Prelude.{◌≡◌, ◌++◌, IfOk, map, string_bytes
 ghost use Rattle.std.specs.List.{list_any};
 ghost use Rattle.site_check.specs.Report.{is_no, is_refused, is_undecided, report};
 ghost use Rattle.phpsa_texts.specs.Statuses.{conclusion_status, judgment_status, site_status};
-ghost use Rattle.phpsa_texts.specs.Texts.{Says, conclusion_word, judgment_text, no_answer, no_text, passed_answer, passed_json, passed_text, sums_text, summary_text, yes_answer};
+ghost use Rattle.phpsa_texts.specs.Texts.{Says, conclusion_word, judgment_text, many_states_text, no_answer, no_text, passed_answer, passed_json, passed_text, sums_text, summary_text, yes_answer};
 ghost use Rattle.phpsa_texts.specs.declared.exit.Exit.TheVariants.{Done, No, Undecided};
 
 use crate::exit::Exit;
@@ -145,6 +145,19 @@ fn passed_text(alloc: Global, passed: PassedCount) -> Result<Bytes, NoMemory>
             Ok(text)
         }
     }
+}
+
+/// That a pattern has so many derivatives, so that a script is not decided.
+pub fn many_states_message(alloc: Global, count: u64) -> Result<Message, NoMemory>
+    ensures { IfOk result (λ message. Says message Undecided (many_states_text count)) }
+{
+    let mut text = Bytes::from_slice(alloc, b"undecided states ")?;
+    append_number(alloc, &mut text, count)?;
+    text.append(b"\n")?;
+    Ok(Message {
+        status: Exit::Undecided,
+        text,
+    })
 }
 
 fn sums_text(alloc: Global, kind: &[u8], count: u64, height: u64) -> Result<Bytes, NoMemory>

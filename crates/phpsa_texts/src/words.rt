@@ -21,6 +21,7 @@ pub const HELP: &[u8] = b"phpsa says whether all pages that a PHP script can pri
   phpsa page FILE     Says whether one page is valid.
   phpsa grammar FILE  Writes the grammar of the pages of a script.
   phpsa make N        Writes a test script of N functions; --check decides it.
+  phpsa match FILE    Says whether each page of a script fits a pattern.
   phpsa site FILE     Decides each script of a list, a line of JSON for each.
 
   --dtd TYPE          check, page, site: strict (if left out), mini or a file.
@@ -28,9 +29,10 @@ pub const HELP: &[u8] = b"phpsa says whether all pages that a PHP script can pri
   --nesting           check, site: asks only that the tags of a page match.
   --json              check: writes the answer as a line of JSON.
   --root FOLDER       all but make: what is included lies in it or below it.
-  --stubs FILE        check, run, grammar, site: the functions of this script
-                      stand for functions of PHP that phpsa does not know.
+  --stubs FILE        all but page, make: the functions of this script stand
+                      for functions of PHP that phpsa does not know.
   --request FILE      run: the request, as JSON; an empty one if left out.
+  --policy FILE       match: the pattern that each page is to fit as a whole.
   --steps N           run: stops after N steps, 10000000 if left out.
   --help, --version   Writes this, or the version.
 
@@ -46,6 +48,7 @@ phpsa run FILE [--request FILE] [--steps N] [--root FOLDER] [--stubs FILE]
 phpsa page FILE [--dtd D] [--root FOLDER]
 phpsa grammar FILE [--root FOLDER] [--stubs FILE]
 phpsa make N [--check]
+phpsa match FILE --policy FILE [--root FOLDER] [--stubs FILE]
 phpsa site FILE [--dtd D] [--limit N] [--nesting] [--root FOLDER] [--stubs FILE]
 phpsa --help
 phpsa --version
