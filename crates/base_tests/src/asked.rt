@@ -110,6 +110,16 @@ fn words(rt: HostRuntime) -> Result<(), Fail> {
             }),
         ),
         (
+            "match --root=. t.php --policy p.txt",
+            Ok(CommandLine::Match {
+                file: "t.php",
+                policy: "p.txt",
+                root: Some("."),
+                stubs: None,
+            }),
+        ),
+        ("match t.php", Err(None)),
+        (
             "grammar --stubs env.php t.php",
             Ok(CommandLine::Grammar {
                 file: "t.php",

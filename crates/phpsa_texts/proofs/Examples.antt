@@ -156,7 +156,7 @@ a_status : status_of Usage ≡ 9
 a_status = refl
 
 the_usage : usage_text None
-    ≡ codes "phpsa: Usage\na number is one to eight decimal digits that are not all 0\nphpsa check FILE.. [--dtd D] [--limit N] [--nesting] [--json] [--root FOLDER] [--stubs FILE]\nphpsa run FILE [--request FILE] [--steps N] [--root FOLDER] [--stubs FILE]\nphpsa page FILE [--dtd D] [--root FOLDER]\nphpsa grammar FILE [--root FOLDER] [--stubs FILE]\nphpsa make N [--check]\nphpsa site FILE [--dtd D] [--limit N] [--nesting] [--root FOLDER] [--stubs FILE]\nphpsa --help\nphpsa --version\n"
+    ≡ codes "phpsa: Usage\na number is one to eight decimal digits that are not all 0; match wants --policy FILE\nphpsa check FILE.. [--dtd D] [--limit N] [--nesting] [--json] [--root FOLDER] [--stubs FILE]\nphpsa run FILE [--request FILE] [--steps N] [--root FOLDER] [--stubs FILE]\nphpsa page FILE [--dtd D] [--root FOLDER]\nphpsa grammar FILE [--root FOLDER] [--stubs FILE]\nphpsa make N [--check]\nphpsa match FILE --policy FILE [--root FOLDER] [--stubs FILE]\nphpsa site FILE [--dtd D] [--limit N] [--nesting] [--root FOLDER] [--stubs FILE]\nphpsa --help\nphpsa --version\n"
 the_usage = refl
 
 a_reason : reason_text (Some (codes "unexpected argument 'x'")) ≡ codes "unexpected argument 'x'" ++ 10 ∷ []

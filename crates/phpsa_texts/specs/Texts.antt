@@ -337,9 +337,9 @@ site_usage = codes "phpsa site FILE [--dtd D] [--limit N] [--nesting] [--root FO
 abbrev pub help_usage : List ℕ
 help_usage = codes "phpsa --help" ++ 10 ∷ (codes "phpsa --version" ++ 10 ∷ [])
 
--- what is wrong with the words: a line that is told of them, or, where there is none, what a number is
+-- what is wrong with the words: a line that is told of them, or, where there is none, what a number is and what `match` wants
 abbrev pub reason_text : Option (List ℕ) → List ℕ
-reason_text None = codes "a number is one to eight decimal digits that are not all 0" ++ 10 ∷ []
+reason_text None = codes "a number is one to eight decimal digits that are not all 0; match wants --policy FILE" ++ 10 ∷ []
 reason_text (Some line) = shown_name line ++ 10 ∷ []
 
 -- on `err`, where words ask for nothing: its name, what is wrong, and a line for each command

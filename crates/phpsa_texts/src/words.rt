@@ -84,7 +84,8 @@ fn reason_text(alloc: Global, reason: Option<&[u8]>) -> Result<Bytes, NoMemory>
 {
     let mut text = match reason {
         None => {
-            let what = b"a number is one to eight decimal digits that are not all 0";
+            let what =
+                b"a number is one to eight decimal digits that are not all 0; match wants --policy FILE";
             Bytes::from_slice(alloc, what)?
         }
         Some(line) => shown_name(alloc, line)?,
@@ -104,8 +105,8 @@ fn usage_text(alloc: Global, reason: Option<&[u8]>) -> Result<Bytes, NoMemory>
     Ok(text)
 }
 
-/// That words ask for nothing, with a line that says why, or none where a number is none; and what
-/// they may ask for.
+/// That words ask for nothing, with a line that says why, or none where a number is none or `match`
+/// has no pattern; and what they may ask for.
 pub fn usage_refusal(alloc: Global, reason: Option<&[u8]>) -> Refusal
     ensures { IsTold result Usage (usage_text (option_map (λ line. line.now) reason.entry)) }
 {
