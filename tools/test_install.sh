@@ -254,7 +254,7 @@ completes() {
 }
 cd "$site/list/mended" || exit 1
 completes check phpsa ch
-completes '--dtd --limit --nesting --json --root --stubs --help' phpsa check --
+completes '--dtd --limit --nesting --json --shortest --root --stubs --help' phpsa check --
 completes '--root --stubs --help' phpsa grammar --
 completes '--policy --root --stubs --help' phpsa match --
 completes guests.php phpsa run --stubs gu

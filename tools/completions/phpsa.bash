@@ -33,7 +33,7 @@ _phpsa() {
       ;;
   esac
   case $command in
-    check) list='--dtd --limit --nesting --json --root --stubs --help' ;;
+    check) list='--dtd --limit --nesting --json --shortest --root --stubs --help' ;;
     run) list='--request --steps --root --stubs --help' ;;
     page) list='--dtd --root --help' ;;
     grammar) list='--root --stubs --help' ;;

@@ -21,6 +21,7 @@ complete -c phpsa -n '__phpsa_is check page site' -l dtd -x -a 'strict mini (__f
 complete -c phpsa -n '__phpsa_is check site' -l limit -x -d 'give up at so many sums'
 complete -c phpsa -n '__phpsa_is check site' -l nesting -d 'ask for matching tags alone'
 complete -c phpsa -n '__phpsa_is check' -l json -d 'answer as a line of JSON'
+complete -c phpsa -n '__phpsa_is check' -l shortest -d 'show a page of the fewest bytes that is not valid'
 complete -c phpsa -n '__phpsa_is make' -l check -d 'decide the script'
 complete -c phpsa -n '__phpsa_is make' -f
 complete -c phpsa -n '__phpsa_is run' -l request -r -d 'the file of the request'

@@ -13,7 +13,7 @@ use Rattle.command_words.specs.Program.{phpsa}
 pub data Asked : Type 0 where
   help : Asked
   version : Asked
-  check : (file definition : Text) (root stubs : Option Text) (limit : ℕ) (by_nesting as_json : Bool) → Asked
+  check : (file definition : Text) (root stubs : Option Text) (limit : ℕ) (by_nesting as_json is_shortest : Bool) → Asked
   run : (file : Text) (root stubs request : Option Text) (steps : ℕ) → Asked
   page : (file definition : Text) (root : Option Text) → Asked
   grammar : (file : Text) (root stubs : Option Text) → Asked
@@ -52,7 +52,7 @@ definition_of values = unwrap_or (values (codes "dtd")) (codes "strict")
 abbrev pub asked_check : Values → Option Asked
 asked_check values = option_and_then (λ file. option_map
     (λ limit. check file (definition_of values) (values (codes "root")) (values (codes "stubs")) limit
-    (is_given (values (codes "nesting"))) (is_given (values (codes "json"))))
+    (is_given (values (codes "nesting"))) (is_given (values (codes "json"))) (is_given (values (codes "shortest"))))
     (number_or PAIR_LIMIT (values (codes "limit")))) (values (codes "FILE"))
 
 -- what `run` asks for; None where the file is missing or the most steps are no number

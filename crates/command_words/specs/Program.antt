@@ -17,7 +17,7 @@ row_of word place options flags = record { word = word; place = place; options =
 
 -- `phpsa check`: a script is decided
 abbrev pub check : Row
-check = row_of (codes "check") (codes "FILE") (codes "dtd" ∷ codes "limit" ∷ codes "root" ∷ codes "stubs" ∷ []) (codes "nesting" ∷ codes "json" ∷ [])
+check = row_of (codes "check") (codes "FILE") (codes "dtd" ∷ codes "limit" ∷ codes "root" ∷ codes "stubs" ∷ []) (codes "nesting" ∷ codes "json" ∷ codes "shortest" ∷ [])
 
 -- `phpsa run`: a script is run
 abbrev pub run : Row

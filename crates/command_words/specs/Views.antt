@@ -16,7 +16,8 @@ text_as text = option_map (λ one. one.now) text
 abbrev pub asked_as : CommandLine → Asked
 asked_as Help = help
 asked_as Version = version
-asked_as (Check file definition root stubs limit by_nesting as_json) = check file.now definition.now (text_as root) (text_as stubs) limit by_nesting as_json
+asked_as (Check file definition root stubs limit by_nesting as_json is_shortest) =
+    check file.now definition.now (text_as root) (text_as stubs) limit by_nesting as_json is_shortest
 asked_as (Run file root stubs request steps) = run file.now (text_as root) (text_as stubs) (text_as request) steps
 asked_as (Page file definition root) = page file.now definition.now (text_as root)
 asked_as (Grammar file root stubs) = grammar file.now (text_as root) (text_as stubs)

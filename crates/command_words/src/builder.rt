@@ -113,7 +113,7 @@ fn program<'a>(alloc: Global) -> Result<Command<'a>, AllocError>
         "check",
         "FILE",
         &["dtd", "limit", "root", "stubs"],
-        &["nesting", "json"],
+        &["nesting", "json", "shortest"],
     );
     let run = row_with("run", "FILE", &["request", "steps", "root", "stubs"], &[]);
     let page = row_with("page", "FILE", &["dtd", "root"], &[]);

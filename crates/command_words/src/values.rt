@@ -54,6 +54,7 @@ fn check_line<'a>(matches: &ArgMatches<'a>) -> Option<CommandLine<'a>>
         limit,
         by_nesting: is_given(matches, "nesting"),
         as_json: is_given(matches, "json"),
+        is_shortest: is_given(matches, "shortest"),
     })
 }
 

@@ -71,7 +71,7 @@ once_or files own status wants (inr (none, was)) = inr (none, wants)
 -- what is read for a task
 read_behind : (task : Task) (files : SourceCall) (own status : Exit) → ReadsFor task files own → Behind own status → ReadsFor task files status
 read_behind task files own status read (inl is) = subst (ReadsFor task files) (sym is) read
-read_behind (script_check file d goal limit form) files own status read (inr wants) = λ built_in. inl (wanting_uncounted status wants)
+read_behind (script_check file d goal limit form choice) files own status read (inr wants) = λ built_in. inl (wanting_uncounted status wants)
 read_behind (page_check file d) files own status read (inr wants) = λ built_in. once_or files own status wants (read built_in)
 read_behind (script_making n) files own status read (inr wants) = read
 read_behind (made_check n) files own status read (inr wants) = read
@@ -111,7 +111,7 @@ refused_counts one call task Refusal.Memory status asked does reports out err =
 
 -- no memory was left for the words
 unread : (task : Task) (files : SourceCall) (status : Exit) → ReadsNothing files → IsWanting status → ReadsFor task files status
-unread (script_check file d goal limit form) files status none wants = λ built_in. inl (wanting_uncounted status wants)
+unread (script_check file d goal limit form choice) files status none wants = λ built_in. inl (wanting_uncounted status wants)
 unread (page_check file d) files status none wants = λ built_in. inr (none, wants)
 unread (script_making n) files status none wants = none
 unread (made_check n) files status none wants = none

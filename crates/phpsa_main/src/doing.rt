@@ -12,8 +12,9 @@ use crate::matching::match_script;
 use crate::page::judge_page;
 use crate::running::run_script;
 use crate::script::check_script;
+use crate::shortest::check_with_shortest;
 use io_edge::Files;
-use phpsa_tasks::{Reply, Task};
+use phpsa_tasks::{PageChoice, Reply, Task};
 use phpsa_texts::{Refusal, help_message, usage_refusal, version_message};
 use std::alloc::Global;
 
@@ -34,7 +35,16 @@ pub(crate) fn result_of<F: Files>(
             goal,
             limit,
             form,
+            choice: PageChoice::First,
         } => check_script(alloc, file, document_type, goal, limit, form, files),
+        Task::ScriptCheck {
+            file,
+            document_type,
+            goal,
+            limit,
+            form,
+            choice: PageChoice::Shortest,
+        } => check_with_shortest(alloc, file, document_type, goal, limit, form, files),
         Task::PageCheck {
             file,
             document_type,

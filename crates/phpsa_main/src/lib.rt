@@ -25,6 +25,7 @@ mod page;
 mod report;
 mod running;
 mod script;
+mod shortest;
 mod site_lines;
 
 use crate::doing::result_of;

@@ -71,7 +71,7 @@ exact_from one content task x status verdict w v (inr stopped) = inr stopped
 
 -- a task that finds something does not lack it
 found_nothing : (content : Content) (task : Task) (x : Subject task) → LacksFile content task → Finds content task x → ⊥
-found_nothing content (script_check file d goal limit form) x none (found, has) = none x.program found
+found_nothing content (script_check file d goal limit form choice) x none (found, has) = none x.program found
 found_nothing content (page_check file d) x none (found, has) = none x.page found
 found_nothing content (script_making n) x lacks found = lacks
 found_nothing content (made_check n) x lacks (size, found, has) = lacks size

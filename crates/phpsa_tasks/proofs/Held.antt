@@ -45,6 +45,8 @@ use Rattle.program_lowering.specs.Short.{HasLongText}
 use Rattle.script_decision.specs.Decision.{HasLargeModels}
 use Rattle.script_decision.specs.declared.shown.ShownAnswer.{ShownAnswer}
 use Rattle.script_decision.specs.Shown.{IsShownAnswer}
+use Rattle.shortest_decision.specs.Answers.{IsShortestAnswer}
+use Rattle.shortest_decision.specs.declared.answer.ShortestAnswer.{ShortestAnswer}
 use Rattle.phpsa_texts.specs.declared.exit.Exit.{Exit}
 use Rattle.phpsa_texts.specs.declared.exit.Exit.TheVariants.{Input, Memory}
 use Rattle.phpsa_texts.specs.Statuses.{judgment_status, load_status, file_status, request_status, definition_status, policy_status, list_status, site_status}
@@ -56,11 +58,12 @@ use Rattle.phpsa_tasks.specs.Requests.{no_request, FindsRequest, HoldsRequest, u
 use Rattle.phpsa_tasks.specs.Policies.{FindsPattern, HoldsPattern, pattern_unread, no_pattern_in, RefusesPattern}
 use Rattle.phpsa_tasks.specs.PolicyAnswers.{match_status}
 use Rattle.phpsa_tasks.specs.Subjects.{ProgramBy, PageBy, ProgramFor, ProgramAgainst, ListBy, Subject, made_name, made_file, only_made, Finds, HoldsShortProgram, HoldsProgramInside, HoldsTable, Holds, IsSmall, IsWithin}
-use Rattle.phpsa_tasks.specs.ScriptAnswers.{answer_status}
+use Rattle.phpsa_tasks.specs.declared.choice.PageChoice.{PageChoice}
+use Rattle.phpsa_tasks.specs.ScriptAnswers.{answer_status, shortest_status}
 use Rattle.phpsa_tasks.specs.Replies.{end_status, HasManyItems, IsJudged, IsReplyOf, IsHaltOf}
 use Rattle.phpsa_tasks.specs.Causes.{definition_call, RefusesDefinition, not_defined, large_models, RefusesScript, not_loaded, lacks_definition, has_long_text, not_read, page_lacks_definition, no_size, made_refused, list_unread, no_list, list_lacks_definition, RefusesLongText, Refuses}
 use Rattle.phpsa_tasks.specs.Counted.{from_misses}
-use Rattle.phpsa_tasks.specs.Answered.{IsScriptVerdict, PassesScriptLimit, PassesGrammarLimit, IsMatchVerdict, PassesMatchLimit, IsListVerdict, StopsAtScript, IsVerdict, PassesLimit, IsStopped}
+use Rattle.phpsa_tasks.specs.Answered.{IsScriptVerdict, PassesScriptLimit, PassesCheckLimit, PassesGrammarLimit, IsMatchVerdict, PassesMatchLimit, IsListVerdict, StopsAtScript, IsVerdict, PassesLimit, IsStopped}
 use Rattle.script_maker.specs.Made.{made}
 use Rattle.phpsa_tasks.proofs.Alone.{alone_stays_inside}
 use Rattle.phpsa_tasks.proofs.ListLemmas.{LoadedStays, list_verdict, not_list}
@@ -102,6 +105,21 @@ script_verdict : (goal : Goal) (table : Table) (program : PlainProgram) (limit :
     → IsShownAnswer goal table program limit answer → IsScriptVerdict goal table program status ⊎ PassesScriptLimit goal table program limit status
 script_verdict goal table program limit answer status status_is is =
     subst (λ (s : Exit). IsScriptVerdict goal table program s ⊎ PassesScriptLimit goal table program limit s) (sym status_is) (answer_verdict goal table program limit answer is)
+
+-- and so is that of an answer with a shortest page
+shortest_verdict : (goal : Goal) (table : Table) (program : PlainProgram) (limit : ℕ) (answer : ShortestAnswer) → IsShortestAnswer goal table program limit answer
+    → IsScriptVerdict goal table program (shortest_status answer) ⊎ PassesCheckLimit PageChoice.Shortest goal table program limit (shortest_status answer)
+shortest_verdict goal table program limit ShortestAnswer.Yes is = inl is
+shortest_verdict goal table program limit (ShortestAnswer.No shown) is = inl (is.page, is.loose, is.bad)
+shortest_verdict goal table program limit (ShortestAnswer.Pairs count len) is = inr (ShortestAnswer.Pairs count len, is, refl)
+shortest_verdict goal table program limit (ShortestAnswer.Tags count len) is = inr (ShortestAnswer.Tags count len, is, refl)
+shortest_verdict goal table program limit (ShortestAnswer.Items count) is = inr (ShortestAnswer.Items count, is, refl)
+
+shortest_verdict_at : (goal : Goal) (table : Table) (program : PlainProgram) (limit : ℕ) (answer : ShortestAnswer) (status : Exit) → status ≡ shortest_status answer
+    → IsShortestAnswer goal table program limit answer → IsScriptVerdict goal table program status ⊎ PassesCheckLimit PageChoice.Shortest goal table program limit status
+shortest_verdict_at goal table program limit answer status status_is is =
+    subst (λ (s : Exit). IsScriptVerdict goal table program s ⊎ PassesCheckLimit PageChoice.Shortest goal table program limit s) (sym status_is)
+    (shortest_verdict goal table program limit answer is)
 
 judgment_verdict : (content : Content) (file : List ℕ) (d : NamedType) (x : PageBy) (valid : Bool) → IsJudged x.table x.page valid → IsVerdict content (page_check file d) x (judgment_status valid)
 judgment_verdict content file d x true is = is
@@ -183,10 +201,14 @@ stopped content task x status (inr is) = inr (inl is)
 -- a reply says the verdict of what the source holds, or that a limit was passed
 pub held_reply : OneProgram → LoadedStays → (files : SourceCall) (task : Task) (x y : Subject task) (status : Exit) (text : List ℕ) → Holds files.content task x → Finds files.content task y
     → IsReplyOf files task y status text → IsVerdict files.content task x status ⊎ IsStopped files.content task x status
-held_reply one stay files (script_check file d goal limit form) x y status text (h, t) (found, has) (answer, is, status_is, text_is) =
-    stopped files.content (script_check file d goal limit form) x status
+held_reply one stay files (script_check file d goal limit form PageChoice.First) x y status text (h, t) (found, has) (answer, is, status_is, text_is) =
+    stopped files.content (script_check file d goal limit form PageChoice.First) x status
     (script_verdict goal x.table x.program limit answer status status_is
     (own_program one files.content file d x y h t found.loaded has (λ (p : PlainProgram) (s : Table). IsShownAnswer goal s p limit answer) is.0))
+held_reply one stay files (script_check file d goal limit form PageChoice.Shortest) x y status text (h, t) (found, has) (answer, is, status_is, text_is) =
+    stopped files.content (script_check file d goal limit form PageChoice.Shortest) x status
+    (shortest_verdict_at goal x.table x.program limit answer status status_is
+    (own_program one files.content file d x y h t found.loaded has (λ (p : PlainProgram) (s : Table). IsShortestAnswer goal s p limit answer) is.0))
 held_reply one stay files (page_check file d) x y status text (h, t) (found, has) (valid, is, status_is, text_is) =
     inl (subst (IsVerdict files.content (page_check file d) x) (sym status_is)
     (judgment_verdict files.content file d x valid (own_page files.content file d x y h t found has (λ (p : List ℕ) (s : Table). IsJudged s p valid) is)))
@@ -218,7 +240,7 @@ held_reply one stay files usage x y status text h f r = absurd r
 -- and so does a run that does not come to its end
 pub held_halt : OneProgram → (content : Content) (task : Task) (x y : Subject task) (status : Exit) (printed text : List ℕ) → Holds content task x → Finds content task y
     → IsHaltOf task y status printed text → IsVerdict content task x status ⊎ IsStopped content task x status
-held_halt one content (script_check file d goal limit form) x y status printed text h f r = absurd r
+held_halt one content (script_check file d goal limit form choice) x y status printed text h f r = absurd r
 held_halt one content (page_check file d) x y status printed text h f r = absurd r
 held_halt one content (script_making n) x y status printed text h f r = absurd r
 held_halt one content (made_check n) x y status printed text h f r = absurd r
@@ -299,17 +321,22 @@ definition_memory files d table status text t w calm (large_models found count h
 never : Rises 0 0 → ⊥
 never rises = let one : 1 ≤ 0 = rises in omega (arith, one)
 
+-- a long text stops the decision
+long_passes : (choice : PageChoice) (goal : Goal) (table : Table) (program : PlainProgram) (limit : ℕ) → HasLongText program → PassesCheckLimit choice goal table program limit Input
+long_passes PageChoice.First goal table program limit long = long
+long_passes PageChoice.Shortest goal table program limit long = long
+
 -- a script that is held is refused for a long text, or for want of memory
-held_script : ProgramLaws → (files : SourceCall) (file : ScriptFile) (d : NamedType) (goal : Goal) (limit : ℕ) (x : ProgramBy) (status : Exit) (text : List ℕ)
+held_script : ProgramLaws → (files : SourceCall) (file : ScriptFile) (d : NamedType) (choice : PageChoice) (goal : Goal) (limit : ℕ) (x : ProgramBy) (status : Exit) (text : List ℕ)
     → (Rises files.faults files.faults' → ⊥) → HoldsProgramInside files.content file x.program → HoldsTable files.content d x.table → IsSmall files.content d x.table
-    → RefusesScript files file d status text → PassesScriptLimit goal x.table x.program limit status ⊎ (status ≡ Memory)
-held_script laws files file d goal limit x status text calm h t w (not_loaded cause why status_is text_is) =
+    → RefusesScript files file d status text → PassesCheckLimit choice goal x.table x.program limit status ⊎ (status ≡ Memory)
+held_script laws files file d choice goal limit x status text calm h t w (not_loaded cause why status_is text_is) =
     inr (status_is ∙ unloaded_memory laws files file x.program cause h calm why)
-held_script laws files file d goal limit x status text calm h t w (lacks_definition program misses found behind why) =
+held_script laws files file d choice goal limit x status text calm h t w (lacks_definition program misses found behind why) =
     inr (definition_memory (from_misses misses files) d x.table status text t w calm why)
-held_script laws files file d goal limit x status text calm h t w (has_long_text program found long status_is text_is) =
+held_script laws files file d choice goal limit x status text calm h t w (has_long_text program found long status_is text_is) =
     let own : HasLongText x.program = subst HasLongText (sym (laws.one_program files.content file.name file.stubs x.program program h.held.holds found.loaded)) long in
-    inl (subst (PassesScriptLimit goal x.table x.program limit) (sym status_is) own)
+    inl (subst (PassesCheckLimit choice goal x.table x.program limit) (sym status_is) (long_passes choice goal x.table x.program limit own))
 
 -- a list that is held and is none is refused for that
 refused_list : (files : SourceCall) (file : ScriptFile) (goal : Goal) (limit : ℕ) (table : Table) (list : List ℕ) (refusal : ListRefusal) (status : Exit) → status ≡ list_status refusal → IsNoList list refusal
@@ -324,7 +351,7 @@ refused_list files file goal limit table list refusal status status_is why = by 
 -- a refusal says the verdict of what the source holds, that a limit was passed, or want of memory
 pub held_refusal : ProgramLaws → (files : SourceCall) (task : Task) (x : Subject task) (status : Exit) (text : List ℕ) → (Rises files.faults files.faults' → ⊥)
     → Holds files.content task x → IsWithin files.content task x → Refuses files task status text → IsVerdict files.content task x status ⊎ IsStopped files.content task x status
-held_refusal laws files (script_check file d goal limit form) x status text calm (h, t) (i, w) why = inr (held_script laws files file d goal limit x status text calm i t w why)
+held_refusal laws files (script_check file d goal limit form choice) x status text calm (h, t) (i, w) why = inr (held_script laws files file d choice goal limit x status text calm i t w why)
 held_refusal laws files (page_check file d) x status text calm (h, t) w (not_read fault why status_is text_is) =
     inr (inr (status_is ∙ file_memory files file x.page fault h calm why))
 held_refusal laws files (page_check file d) x status text calm (h, t) w (page_lacks_definition read told why) = inr (inr (definition_memory files d x.table status text t w calm why))
@@ -333,7 +360,7 @@ held_refusal laws files (made_check n) x status text calm (size, h, t) w (no_siz
 held_refusal laws files (made_check n) x status text calm (size, h, t) w (made_refused size' misses reads why) =
     let inside : HoldsProgramInside (only_made n) made_file x.program =
     record { held = h; inside = alone_stays_inside made_name (made n) made_name None x.program h.holds (root_of made_file) } in
-    inr (held_script laws (source_call (only_made n) 0 0 0 misses 0 reads) made_file strict_type Goal.Valid PAIR_LIMIT x status text never inside t w why)
+    inr (held_script laws (source_call (only_made n) 0 0 0 misses 0 reads) made_file strict_type PageChoice.First Goal.Valid PAIR_LIMIT x status text never inside t w why)
 held_refusal laws files (script_run file request steps) x status text calm (h, r) w (inl (cause, why, status_is, text_is)) =
     inr (inr (status_is ∙ unloaded_memory laws files file x.program cause w calm why))
 held_refusal laws files (script_run file request steps) x status text calm (h, r) w (inr (program, found, (misses, behind, why), read)) =

@@ -22,6 +22,7 @@ use Rattle.document_types.specs.DocumentTypes.{NamedType, strict_type}
 use Rattle.document_types.specs.declared.refusal.DefinitionRefusal.{DefinitionRefusal}
 use Rattle.document_types.specs.declared.refusal.DefinitionRefusal.TheVariants as definition
 use Rattle.script_decision.specs.declared.shown.ShownAnswer.{ShownAnswer}
+use Rattle.shortest_decision.specs.declared.answer.ShortestAnswer.{ShortestAnswer}
 use Rattle.command_words.specs.Asked.{Asked, help, version, check, run, page, grammar, make, site, match_pattern}
 use Rattle.phpsa_texts.specs.declared.exit.Exit.{Exit}
 use Rattle.phpsa_texts.specs.declared.exit.Exit.TheVariants.{Done, Usage}
@@ -32,7 +33,8 @@ use Rattle.phpsa_tasks.specs.Policies.{pattern_unread, no_pattern_in, RefusesPat
 use Rattle.phpsa_tasks.specs.PolicyAnswers.{match_status}
 use Rattle.phpsa_tasks.specs.Requests.{unread, no_request_in, RefusesRequest}
 use Rattle.phpsa_tasks.specs.Subjects.{Subject, made_file, only_made}
-use Rattle.phpsa_tasks.specs.ScriptAnswers.{answer_status}
+use Rattle.phpsa_tasks.specs.declared.choice.PageChoice.{PageChoice}
+use Rattle.phpsa_tasks.specs.ScriptAnswers.{answer_status, shortest_status}
 use Rattle.phpsa_tasks.specs.Replies.{end_status, IsReplyOf, IsHaltOf}
 use Rattle.phpsa_tasks.specs.Written.{HasAllWritten}
 use Rattle.phpsa_tasks.specs.Counted.{from_misses}
@@ -157,7 +159,7 @@ not_usage : (status : Exit) → IsOther status → status ≡ Usage → ⊥
 not_usage status is e = subst IsOther e is
 
 pub never_done : (files : SourceCall) (task : Task) (status : Exit) (text : List ℕ) → Refuses files task status text → HasAllWritten status → ⊥
-never_done files (script_check file d goal limit form) status text why e = not_done status (of_script files file d status text why) e
+never_done files (script_check file d goal limit form choice) status text why e = not_done status (of_script files file d status text why) e
 never_done files (page_check file d) status text why e = not_done status (of_page files file d status text why) e
 never_done files (script_making n) status text (size, is, text_is) e = subst HasAllWritten is e
 never_done files (made_check n) status text why e = not_done status (of_made n status text why) e
@@ -174,7 +176,7 @@ never_done files version_telling status text why e = why
 never_done files usage status text (is, text_is) e = subst HasAllWritten is e
 
 pub told_usage : (files : SourceCall) (task : Task) (status : Exit) (text : List ℕ) → Refuses files task status text → status ≡ Usage → task ≡ usage
-told_usage files (script_check file d goal limit form) status text why e = absurd (not_usage status (of_script files file d status text why) e)
+told_usage files (script_check file d goal limit form choice) status text why e = absurd (not_usage status (of_script files file d status text why) e)
 told_usage files (page_check file d) status text why e = absurd (not_usage status (of_page files file d status text why) e)
 told_usage files (script_making n) status text (size, is, text_is) e = let same : exit.Input ≡ Usage = sym is ∙ e in absurd cc
 told_usage files (made_check n) status text why e = absurd (not_usage status (of_made n status text why) e)
@@ -197,6 +199,13 @@ no_answer (ShownAnswer.Pairs count height) e = cc
 no_answer (ShownAnswer.Tags count height) e = cc
 no_answer (ShownAnswer.Items count) e = cc
 
+no_shortest : (answer : ShortestAnswer) → shortest_status answer ≡ Usage → ⊥
+no_shortest ShortestAnswer.Yes e = cc
+no_shortest (ShortestAnswer.No shown) e = cc
+no_shortest (ShortestAnswer.Pairs count len) e = cc
+no_shortest (ShortestAnswer.Tags count len) e = cc
+no_shortest (ShortestAnswer.Items count) e = cc
+
 no_match : (answer : PolicyAnswer) → match_status answer ≡ Usage → ⊥
 no_match matched.Yes e = cc
 no_match (matched.No shown) e = cc
@@ -208,7 +217,8 @@ no_judgment true e = cc
 no_judgment false e = cc
 
 pub no_reply : (files : SourceCall) (task : Task) (x : Subject task) (status : Exit) (text : List ℕ) → IsReplyOf files task x status text → status ≡ Usage → ⊥
-no_reply files (script_check file d goal limit form) x status text (answer, says, is, text_is) e = no_answer answer (sym is ∙ e)
+no_reply files (script_check file d goal limit form PageChoice.First) x status text (answer, says, is, text_is) e = no_answer answer (sym is ∙ e)
+no_reply files (script_check file d goal limit form PageChoice.Shortest) x status text (answer, says, is, text_is) e = no_shortest answer (sym is ∙ e)
 no_reply files (page_check file d) x status text (valid, says, is, text_is) e = no_judgment valid (sym is ∙ e)
 no_reply files (script_making n) x status text (size, is, text_is) e = let same : Done ≡ Usage = sym is ∙ e in cc
 no_reply files (made_check n) x status text (answer, says, is, text_is) e = no_answer answer (sym is ∙ e)
@@ -240,7 +250,7 @@ no_end runs.Spent e = cc
 no_end runs.Deep e = cc
 
 pub no_halt : (task : Task) (x : Subject task) (status : Exit) (printed text : List ℕ) → IsHaltOf task x status printed text → status ≡ Usage → ⊥
-no_halt (script_check file d goal limit form) x status printed text r e = r
+no_halt (script_check file d goal limit form choice) x status printed text r e = r
 no_halt (page_check file d) x status printed text r e = r
 no_halt (script_making n) x status printed text r e = r
 no_halt (made_check n) x status printed text r e = r
@@ -254,7 +264,7 @@ no_halt usage x status printed text r e = r
 
 -- what words ask for is more than the usage
 pub asks_more : (for : Asked) → usage ≡ task_of for → ⊥
-asks_more (check file definition root stubs limit by_nesting as_json) e = cc
+asks_more (check file definition root stubs limit by_nesting as_json is_shortest) e = cc
 asks_more (run file root stubs request steps) e = cc
 asks_more (page file definition root) e = cc
 asks_more (grammar file root stubs) e = cc

@@ -120,7 +120,7 @@ of_unread files file d goal limit reading.Memory calm why = (2, lit< tt, refl)
 
 -- want of memory is one of them
 pub of_memory : (files : SourceCall) (task : Task) (status : Exit) → LacksFile files.content task → status ≡ Memory → Among task status
-of_memory files (script_check file d goal limit form) status lacks is = subst (Among (script_check file d goal limit form)) (sym is) (3, lit< tt, refl)
+of_memory files (script_check file d goal limit form choice) status lacks is = subst (Among (script_check file d goal limit form choice)) (sym is) (3, lit< tt, refl)
 of_memory files (page_check file d) status lacks is = subst (Among (page_check file d)) (sym is) (2, lit< tt, refl)
 of_memory files (script_making n) status lacks is = absurd lacks
 of_memory files (made_check n) status lacks is = subst (Among (made_check n)) (sym is) (1, lit< tt, refl)
@@ -134,10 +134,10 @@ of_memory files usage status lacks is = absurd lacks
 
 pub of_refusal : (files : SourceCall) (task : Task) (status : Exit) (text : List ℕ) → (Rises files.faults files.faults' → ⊥) → LacksFile files.content task → Refuses files task status text
     → Among task status
-of_refusal files (script_check file d goal limit form) status text calm lacks (not_loaded cause why is text_is) =
-    subst (Among (script_check file d goal limit form)) (sym is) (of_load files (root_of file) file.name file.stubs cause calm why)
-of_refusal files (script_check file d goal limit form) status text calm lacks (lacks_definition program misses found behind why) = absurd (lacks program found)
-of_refusal files (script_check file d goal limit form) status text calm lacks (has_long_text program found long is text_is) = absurd (lacks program found)
+of_refusal files (script_check file d goal limit form choice) status text calm lacks (not_loaded cause why is text_is) =
+    subst (Among (script_check file d goal limit form choice)) (sym is) (of_load files (root_of file) file.name file.stubs cause calm why)
+of_refusal files (script_check file d goal limit form choice) status text calm lacks (lacks_definition program misses found behind why) = absurd (lacks program found)
+of_refusal files (script_check file d goal limit form choice) status text calm lacks (has_long_text program found long is text_is) = absurd (lacks program found)
 of_refusal files (page_check file d) status text calm lacks (not_read fault why is text_is) = subst (Among (page_check file d)) (sym is) (of_file files file d fault calm why)
 of_refusal files (page_check file d) status text calm lacks (page_lacks_definition read told why) = absurd (lacks read told)
 of_refusal files (script_making n) status text calm lacks why = absurd lacks

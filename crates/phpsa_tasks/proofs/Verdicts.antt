@@ -95,7 +95,7 @@ list_once one content file goal table list Input _ hold a b = absurd b
 list_once one content file goal table list _ t hold a b = absurd a
 
 pub one_verdict : OneProgram → (content : Content) (task : Task) (x : Subject task) (s t : Exit) → IsWithin content task x → IsVerdict content task x s → IsVerdict content task x t → s ≡ t
-one_verdict one content (script_check file d goal limit form) x s t w a b = script_once goal x.table x.program s t a b
+one_verdict one content (script_check file d goal limit form choice) x s t w a b = script_once goal x.table x.program s t a b
 one_verdict one content (page_check file d) x s t w a b = page_once content file d x s t a b
 one_verdict one content (script_making n) x s t w a b = making_once content n s t a b
 one_verdict one content (made_check n) x s t w a b = script_once Goal.Valid x.table x.program s t a b

@@ -21,8 +21,8 @@ use Rattle.phpsa_tasks.proofs.Answers.{OneTask, the_reply, the_halt}
 -- a reply to what is found is one to what is held
 own_reply : OneProgram → (files : SourceCall) (task : Task) (x y : Subject task) (status : Exit) (text : List ℕ) → Holds files.content task x → Finds files.content task y
     → IsReplyOf files task y status text → IsReplyOf files task x status text
-own_reply one files (script_check file d goal limit form) x y status text (h, t) (found, has) is =
-    own_program one files.content file d x y h t found.loaded has (λ (p : PlainProgram) (s : Table). IsReplyOf files (script_check file d goal limit form) (record { program = p; table = s }) status text) is
+own_reply one files (script_check file d goal limit form choice) x y status text (h, t) (found, has) is =
+    own_program one files.content file d x y h t found.loaded has (λ (p : PlainProgram) (s : Table). IsReplyOf files (script_check file d goal limit form choice) (record { program = p; table = s }) status text) is
 own_reply one files (page_check file d) x y status text (h, t) (found, has) is =
     own_page files.content file d x y h t found has (λ (p : List ℕ) (s : Table). IsReplyOf files (page_check file d) (record { page = p; table = s }) status text) is
 own_reply one files (script_making n) x y status text h f is = is
@@ -43,7 +43,7 @@ own_reply one files usage x y status text h f is = is
 -- and what a run leaves that does not come to its end
 own_halt : OneProgram → (content : Content) (task : Task) (x y : Subject task) (status : Exit) (printed text : List ℕ) → Holds content task x → Finds content task y
     → IsHaltOf task y status printed text → IsHaltOf task x status printed text
-own_halt one content (script_check file d goal limit form) x y status printed text h f is = absurd is
+own_halt one content (script_check file d goal limit form choice) x y status printed text h f is = absurd is
 own_halt one content (page_check file d) x y status printed text h f is = absurd is
 own_halt one content (script_making n) x y status printed text h f is = absurd is
 own_halt one content (made_check n) x y status printed text h f is = absurd is

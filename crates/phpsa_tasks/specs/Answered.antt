@@ -16,6 +16,8 @@ use Rattle.loose_grammar.specs.Pages.{IsLoosePage}
 use Rattle.script_decision.specs.Answers.{EachIsGood}
 use Rattle.script_decision.specs.declared.shown.ShownAnswer.{ShownAnswer}
 use Rattle.script_decision.specs.Shown.{IsShownAnswer}
+use Rattle.shortest_decision.specs.Answers.{IsShortestAnswer}
+use Rattle.shortest_decision.specs.declared.answer.ShortestAnswer.{ShortestAnswer}
 use Rattle.script_maker.specs.Made.{IsSize}
 use Rattle.command_words.specs.Asked.{Asked, AsksNothing}
 use Rattle.command_words.specs.Canonical.{IsCanonical}
@@ -30,11 +32,13 @@ use Rattle.policy_decision.specs.Answers.{EachFits, IsPolicyAnswer}
 use Rattle.policy_decision.specs.declared.answer.PolicyAnswer.{PolicyAnswer}
 use Rattle.phpsa_tasks.specs.Tasks.{ScriptFile, listed, Task, script_check, page_check, script_making, made_check, script_run, grammar_making, list_check, script_match, help_telling, version_telling, usage, AsksFor}
 use Rattle.command_words.specs.declared.values.TheConstants.{PAIR_LIMIT}
+use Rattle.phpsa_tasks.specs.declared.choice.PageChoice.{PageChoice}
+use Rattle.phpsa_tasks.specs.declared.choice.PageChoice.TheVariants.{First, Shortest}
 use Rattle.phpsa_tasks.specs.Requests.{HoldsNoRequest}
 use Rattle.phpsa_tasks.specs.Policies.{HoldsNoPattern}
 use Rattle.phpsa_tasks.specs.PolicyAnswers.{match_status}
 use Rattle.phpsa_tasks.specs.Subjects.{Subject, HoldsProgramInside, Holds, IsWithin, LacksFile}
-use Rattle.phpsa_tasks.specs.ScriptAnswers.{answer_status}
+use Rattle.phpsa_tasks.specs.ScriptAnswers.{answer_status, shortest_status}
 use Rattle.phpsa_tasks.specs.Sites.{RefusesByTable}
 use Rattle.phpsa_tasks.specs.Replies.{end_status, outcome_for, HasManyItems}
 use Rattle.phpsa_tasks.specs.Call.{Call, Gains, GainsNothing, Fails}
@@ -57,6 +61,14 @@ PassesScriptLimit goal table program limit Undecided =
     (answer : ShownAnswer) × IsShownAnswer goal table program limit answer × (answer_status answer ≡ Undecided)
 PassesScriptLimit goal table program limit Input = HasLongText program
 PassesScriptLimit goal table program limit status = ⊥
+
+-- and by which page is shown: of the sums and tags of short sentences where it is a shortest one
+abbrev pub PassesCheckLimit : PageChoice → Goal → Table → PlainProgram → ℕ → Exit → Type 0
+PassesCheckLimit First goal table program limit status = PassesScriptLimit goal table program limit status
+PassesCheckLimit Shortest goal table program limit Undecided =
+    (answer : ShortestAnswer) × IsShortestAnswer goal table program limit answer × (shortest_status answer ≡ Undecided)
+PassesCheckLimit Shortest goal table program limit Input = HasLongText program
+PassesCheckLimit Shortest goal table program limit status = ⊥
 
 -- a limit of the making of a grammar is passed: of the items of an image, or of the bytes of a text
 abbrev pub PassesGrammarLimit : PlainProgram → Exit → Type 0
@@ -104,7 +116,7 @@ StopsAtScript content file goal table limit list status = ⊥
 
 -- the status that a task has for what it speaks of: of a run, that of its end; and each program has a grammar
 abbrev pub IsVerdict : Content → (task : Task) → Subject task → Exit → Type 0
-IsVerdict content (script_check file document_type goal limit form) subject status = IsScriptVerdict goal subject.table subject.program status
+IsVerdict content (script_check file document_type goal limit form choice) subject status = IsScriptVerdict goal subject.table subject.program status
 IsVerdict content (page_check file document_type) subject Done = Valid subject.table subject.page
 IsVerdict content (page_check file document_type) subject No = Valid subject.table subject.page → ⊥
 IsVerdict content (script_making functions) subject Done = IsSize functions
@@ -122,8 +134,8 @@ IsVerdict content task subject status = ⊥
 
 -- the status says that a task is not done: a limit of its decision is passed, or memory was wanting
 abbrev pub PassesLimit : Content → (task : Task) → Subject task → Exit → Type 0
-PassesLimit content (script_check file document_type goal limit form) subject status =
-    PassesScriptLimit goal subject.table subject.program limit status
+PassesLimit content (script_check file document_type goal limit form choice) subject status =
+    PassesCheckLimit choice goal subject.table subject.program limit status
 PassesLimit content (made_check functions) subject status = PassesScriptLimit Goal.Valid subject.table subject.program PAIR_LIMIT status
 PassesLimit content (grammar_making file) subject status = PassesGrammarLimit subject status
 PassesLimit content (list_check file document_type goal limit) subject status =
@@ -138,7 +150,7 @@ IsStopped content task subject status = PassesLimit content task subject status 
 -- the statuses of a task that finds nothing under the name of a file, whatever its document type: a name is missing, a file is no script or
 -- a rule is broken, or a limit is passed
 abbrev pub statuses_of_nothing : Task → List Exit
-statuses_of_nothing (script_check file document_type goal limit form) = Missing ∷ Script ∷ Input ∷ Memory ∷ []
+statuses_of_nothing (script_check file document_type goal limit form choice) = Missing ∷ Script ∷ Input ∷ Memory ∷ []
 statuses_of_nothing (page_check file document_type) = Missing ∷ Input ∷ Memory ∷ []
 statuses_of_nothing (script_making functions) = []
 statuses_of_nothing (made_check functions) = Input ∷ Memory ∷ []

@@ -107,7 +107,7 @@ pub record HasLongTextBehind (files : SourceCall) (file : ScriptFile) (policy : 
 -- why each task is refused; want of memory may come at any place beside. Of what stands in the line that says what is wrong with words
 -- nothing is said here.
 abbrev pub Refuses : SourceCall → Task → Exit → List ℕ → Type 0
-Refuses files (script_check file document_type goal limit form) status text = RefusesScript files file document_type status text
+Refuses files (script_check file document_type goal limit form choice) status text = RefusesScript files file document_type status text
 Refuses files (page_check file document_type) status text = RefusesPage files file document_type status text
 Refuses files (script_making functions) status text = (IsSize functions → ⊥) × (status ≡ Input) × (text ≡ size_text functions)
 Refuses files (made_check functions) status text = RefusesMade functions status text

@@ -61,7 +61,7 @@ uncounted = Script ∷ Missing ∷ ReadFault ∷ Input ∷ WriteFault ∷ Memory
 -- of a program, with those of its stubs and of a request or a pattern; or the page, unless memory was wanting before. The other tasks read nothing; of a list, whose
 -- scripts may share files, nothing is said here.
 abbrev pub ReadsFor : Task → SourceCall → Exit → Type 0
-ReadsFor (script_check file document_type goal limit form) files status =
+ReadsFor (script_check file document_type goal limit form choice) files status =
     IsBuiltIn document_type → Contains uncounted status ⊎ ReadsItsFiles files file
 ReadsFor (page_check file document_type) files status =
     IsBuiltIn document_type → (files.reads' ≡ one_more files.reads) ⊎ (ReadsNothing files × IsWanting status)

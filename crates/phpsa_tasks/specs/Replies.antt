@@ -27,7 +27,7 @@ use Rattle.phpsa_texts.specs.Texts.{passed_text, summary_text, judgment_text, fa
 use Rattle.command_words.specs.declared.values.TheConstants.{PAIR_LIMIT}
 use Rattle.phpsa_tasks.specs.Tasks.{Task, script_check, page_check, script_making, made_check, script_run, grammar_making, list_check, script_match, help_telling, version_telling, usage}
 use Rattle.phpsa_tasks.specs.Subjects.{ProgramFor, Subject, Finds}
-use Rattle.phpsa_tasks.specs.ScriptAnswers.{conclusion_of, answer_status, answer_text, IsAnswer}
+use Rattle.phpsa_tasks.specs.ScriptAnswers.{conclusion_of, answer_status, IsAnswer, IsCheckReply}
 use Rattle.policy_decision.specs.declared.answer.PolicyAnswer.{PolicyAnswer}
 use Rattle.phpsa_tasks.specs.PolicyAnswers.{match_status, match_text, IsMatch}
 use Rattle.phpsa_tasks.specs.Sites.{AreLinesOf}
@@ -78,9 +78,8 @@ IsGrammarReply program status text =
 -- what each task replies of what it speaks of: a run, where it came to its end; of a list, by what came of the source while its scripts were
 -- read; and nothing where nothing is asked for
 abbrev pub IsReplyOf : SourceCall → (task : Task) → Subject task → Exit → List ℕ → Type 0
-IsReplyOf files (script_check file document_type goal limit form) subject status text =
-    (answer : ShownAnswer) × IsAnswer goal subject.table subject.program limit answer × (status ≡ answer_status answer)
-    × (text ≡ answer_text form answer)
+IsReplyOf files (script_check file document_type goal limit form choice) subject status text =
+    IsCheckReply choice goal subject.table subject.program limit form status text
 IsReplyOf files (page_check file document_type) subject status text =
     (valid : Bool) × IsJudged subject.table subject.page valid × (status ≡ judgment_status valid) × (text ≡ judgment_text valid)
 IsReplyOf files (script_making functions) subject status text = IsSize functions × (status ≡ Done) × (text ≡ made functions)

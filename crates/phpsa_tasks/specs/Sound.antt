@@ -23,7 +23,7 @@ use Rattle.phpsa_tasks.specs.Call.{Call}
 -- runs do; and never where nothing is done. Where stubs are given, the program is the one with their functions, and its runs are those in
 -- which these stand for the host's.
 abbrev pub Means : Content → (task : Task) → Subject task → Type 0
-Means content (script_check file document_type goal limit form) subject = RunsAreGood goal subject.table subject.program
+Means content (script_check file document_type goal limit form choice) subject = RunsAreGood goal subject.table subject.program
 Means content (page_check file document_type) subject = Valid subject.table subject.page
 Means content (script_making functions) subject = IsSize functions
 Means content (made_check functions) subject = RunsAreGood Goal.Valid subject.table subject.program

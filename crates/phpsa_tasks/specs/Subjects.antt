@@ -61,7 +61,7 @@ only_made functions = only_script (made functions)
 
 -- what a task speaks of; those that neither read a file nor decide a script speak of none
 abbrev pub Subject : Task → Type 0
-Subject (script_check file document_type goal limit form) = ProgramBy
+Subject (script_check file document_type goal limit form choice) = ProgramBy
 Subject (page_check file document_type) = PageBy
 Subject (script_making functions) = ⊤
 Subject (made_check functions) = ProgramBy
@@ -83,7 +83,7 @@ pub record IsLoadedInside (content : Content) (file : ScriptFile) (program : Pla
 -- that the program is run for, which is admitted; of a generated script, that it can be made, and its program, by the built-in definition;
 -- or the bytes of a list, and a table; or its program, and the pattern that its pages are held against
 abbrev pub Finds : Content → (task : Task) → Subject task → Type 0
-Finds content (script_check file document_type goal limit form) subject =
+Finds content (script_check file document_type goal limit form choice) subject =
     IsLoadedInside content file subject.program × HasTable content document_type subject.table
 Finds content (page_check file document_type) subject =
     Tells (content file) (Some subject.page) × HasTable content document_type subject.table
@@ -119,7 +119,7 @@ pub record HoldsTable (content : Content) (document_type : NamedType) (table : T
 
 -- what the source tells all of; of a generated script, what it is
 abbrev pub Holds : Content → (task : Task) → Subject task → Type 0
-Holds content (script_check file document_type goal limit form) subject =
+Holds content (script_check file document_type goal limit form choice) subject =
     HoldsShortProgram content file subject.program × HoldsTable content document_type subject.table
 Holds content (page_check file document_type) subject =
     HoldsShortFile content file subject.page × HoldsTable content document_type subject.table
@@ -151,7 +151,7 @@ HoldScripts content list names =
 
 -- the definition of a task is so, its program stays in its root, and of a list each name holds a program that does
 abbrev pub IsWithin : Content → (task : Task) → Subject task → Type 0
-IsWithin content (script_check file document_type goal limit form) subject =
+IsWithin content (script_check file document_type goal limit form choice) subject =
     HoldsProgramInside content file subject.program × IsSmall content document_type subject.table
 IsWithin content (page_check file document_type) subject = IsSmall content document_type subject.table
 IsWithin content (script_making functions) subject = ⊤
@@ -167,7 +167,7 @@ IsWithin content usage subject = ⊤
 
 -- under the file's name nothing is found, or no request, or no pattern, under its own; or there is no generated script of this size
 abbrev pub LacksFile : Content → Task → Type 0
-LacksFile content (script_check file document_type goal limit form) = (program : PlainProgram) → IsLoadedInside content file program → ⊥
+LacksFile content (script_check file document_type goal limit form choice) = (program : PlainProgram) → IsLoadedInside content file program → ⊥
 LacksFile content (page_check file document_type) = (page : List ℕ) → Tells (content file) (Some page) → ⊥
 LacksFile content (script_making functions) = ⊥
 LacksFile content (made_check functions) = IsSize functions → ⊥

@@ -12,7 +12,8 @@ script_file_as file = script_file file.name.now (option_map (λ root. root.now) 
 
 -- the plain form of a task
 abbrev pub task_as : declared.Task → Task
-task_as (task.ScriptCheck file document_type goal limit form) = script_check (script_file_as file) (type_of document_type) goal limit form
+task_as (task.ScriptCheck file document_type goal limit form choice) =
+    script_check (script_file_as file) (type_of document_type) goal limit form choice
 task_as (task.PageCheck file document_type) = page_check file.now (type_of document_type)
 task_as (task.ScriptMaking functions) = script_making functions
 task_as (task.MadeCheck functions) = made_check functions

@@ -38,6 +38,10 @@ many_pairs : passed_answer Plain (passed.Pairs 3 2) ≡ codes "undecided pairs 3
 unfolding digits
 many_pairs = refl
 
+many_short_pairs : passed_answer Plain (passed.ShortPairs 3 21) ≡ codes "undecided pairs 3 length 21" ++ 10 ∷ []
+unfolding digits
+many_short_pairs = refl
+
 many_states_of_a_pattern : many_states_text 65537 ≡ codes "undecided states 65537" ++ 10 ∷ []
 unfolding digits
 many_states_of_a_pattern = refl
@@ -156,7 +160,7 @@ a_status : status_of Usage ≡ 9
 a_status = refl
 
 the_usage : usage_text None
-    ≡ codes "phpsa: Usage\na number is one to eight decimal digits that are not all 0; match wants --policy FILE\nphpsa check FILE.. [--dtd D] [--limit N] [--nesting] [--json] [--root FOLDER] [--stubs FILE]\nphpsa run FILE [--request FILE] [--steps N] [--root FOLDER] [--stubs FILE]\nphpsa page FILE [--dtd D] [--root FOLDER]\nphpsa grammar FILE [--root FOLDER] [--stubs FILE]\nphpsa make N [--check]\nphpsa match FILE --policy FILE [--root FOLDER] [--stubs FILE]\nphpsa site FILE [--dtd D] [--limit N] [--nesting] [--root FOLDER] [--stubs FILE]\nphpsa --help\nphpsa --version\n"
+    ≡ codes "phpsa: Usage\na number is one to eight decimal digits that are not all 0; match wants --policy FILE\nphpsa check FILE.. [--dtd D] [--limit N] [--nesting] [--json] [--shortest] [--root FOLDER] [--stubs FILE]\nphpsa run FILE [--request FILE] [--steps N] [--root FOLDER] [--stubs FILE]\nphpsa page FILE [--dtd D] [--root FOLDER]\nphpsa grammar FILE [--root FOLDER] [--stubs FILE]\nphpsa make N [--check]\nphpsa match FILE --policy FILE [--root FOLDER] [--stubs FILE]\nphpsa site FILE [--dtd D] [--limit N] [--nesting] [--root FOLDER] [--stubs FILE]\nphpsa --help\nphpsa --version\n"
 the_usage = refl
 
 a_reason : reason_text (Some (codes "unexpected argument 'x'")) ≡ codes "unexpected argument 'x'" ++ 10 ∷ []

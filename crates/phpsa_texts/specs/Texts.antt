@@ -31,7 +31,7 @@ use Rattle.plain_values.specs.declared.fault.Fault.{Fault}
 use Rattle.plain_values.specs.declared.fault.Fault.TheVariants as fault
 use Rattle.phpsa_texts.specs.declared.words.TheConstants.{HELP}
 use Rattle.phpsa_texts.specs.Shown.{shown_name}
-use Rattle.phpsa_texts.specs.JsonAnswers.{yes_json, no_json, sums_json, items_json}
+use Rattle.phpsa_texts.specs.JsonAnswers.{yes_json, no_json, sums_json, short_sums_json, items_json}
 use Rattle.phpsa_texts.specs.declared.exit.Exit.{Exit}
 use Rattle.phpsa_texts.specs.declared.message.Message.{Message}
 use Rattle.phpsa_texts.specs.declared.message.Refusal.{Refusal}
@@ -59,14 +59,17 @@ yes_text = codes "yes" ++ 10 ∷ []
 abbrev pub no_text : ℕ → List ℕ → List ℕ
 no_text len front = codes "no" ++ 10 ∷ (codes "page " ++ decimal len ++ 10 ∷ (front ++ 10 ∷ []))
 
--- on `out`, where a count of sums or tags was passed, of derivations of at most this height
-abbrev pub sums_text : List ℕ → ℕ → ℕ → List ℕ
-sums_text kind count height = codes "undecided " ++ kind ++ codes " " ++ decimal count ++ codes " height " ++ decimal height ++ 10 ∷ []
+-- on `out`, where a count of sums or tags was passed, of derivations of at most this height, or of sentences of at most this length: the word
+-- for which of both stands between
+abbrev pub sums_text : List ℕ → ℕ → List ℕ → ℕ → List ℕ
+sums_text kind count within bound = codes "undecided " ++ kind ++ codes " " ++ decimal count ++ within ++ decimal bound ++ 10 ∷ []
 
 -- on `out`, where a stated count was passed
 abbrev pub passed_text : PassedCount → List ℕ
-passed_text (passed.Pairs count height) = sums_text (codes "pairs") count height
-passed_text (passed.Tags count height) = sums_text (codes "tags") count height
+passed_text (passed.Pairs count height) = sums_text (codes "pairs") count (codes " height ") height
+passed_text (passed.Tags count height) = sums_text (codes "tags") count (codes " height ") height
+passed_text (passed.ShortPairs count len) = sums_text (codes "pairs") count (codes " length ") len
+passed_text (passed.ShortTags count len) = sums_text (codes "tags") count (codes " length ") len
 passed_text (passed.Items count) = codes "undecided items " ++ decimal count ++ 10 ∷ []
 
 -- on `out`, where a pattern has so many derivatives, over the limit
@@ -77,6 +80,8 @@ many_states_text count = codes "undecided states " ++ decimal count ++ 10 ∷ []
 abbrev pub passed_json : PassedCount → List ℕ
 passed_json (passed.Pairs count height) = sums_json (codes "pairs") count height
 passed_json (passed.Tags count height) = sums_json (codes "tags") count height
+passed_json (passed.ShortPairs count len) = short_sums_json (codes "pairs") count len
+passed_json (passed.ShortTags count len) = short_sums_json (codes "tags") count len
 passed_json (passed.Items count) = items_json count
 
 -- these three in each form
@@ -307,7 +312,7 @@ version_text = codes "phpsa 0.1.0" ++ 10 ∷ []
 
 -- what `check` takes
 abbrev pub check_usage : List ℕ
-check_usage = codes "phpsa check FILE.. [--dtd D] [--limit N] [--nesting] [--json] [--root FOLDER] [--stubs FILE]" ++ 10 ∷ []
+check_usage = codes "phpsa check FILE.. [--dtd D] [--limit N] [--nesting] [--json] [--shortest] [--root FOLDER] [--stubs FILE]" ++ 10 ∷ []
 
 -- what `run` takes
 abbrev pub run_usage : List ℕ

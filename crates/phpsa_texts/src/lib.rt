@@ -25,7 +25,7 @@ pub use answers::{
 };
 pub use definitions::{definition_refusal, states_refusal};
 pub use exit::Exit;
-pub use json_answers::{items_json, no_json, sums_json, yes_json};
+pub use json_answers::{items_json, no_json, short_sums_json, sums_json, yes_json};
 pub use lines::{NO_MEMORY, WRITE_FAULT};
 pub use message::{Message, Refusal};
 pub use options::options_refusal;

@@ -27,10 +27,9 @@ pub const HELP: &[u8] = b"phpsa says whether all pages that a PHP script can pri
   --dtd TYPE          check, page, site: strict (if left out), mini or a file.
   --limit N           check, site: gives up at over N sums, 10000 if left out.
   --nesting           check, site: asks only that the tags of a page match.
-  --json              check: writes the answer as a line of JSON.
+  --json, --shortest  check: answers as JSON; shows a bad page of fewest bytes.
   --root FOLDER       all but make: what is included lies in it or below it.
-  --stubs FILE        all but page, make: the functions of this script stand
-                      for functions of PHP that phpsa does not know.
+  --stubs FILE        all but page, make: a script of functions that PHP has.
   --request FILE      run: the request, as JSON; an empty one if left out.
   --policy FILE       match: the pattern that each page is to fit as a whole.
   --steps N           run: stops after N steps, 10000000 if left out.
@@ -43,7 +42,7 @@ Example:  phpsa check guests.php --dtd strict
 
 /// A line for each command.
 const USAGE_LINES: &[u8] =
-    b"phpsa check FILE.. [--dtd D] [--limit N] [--nesting] [--json] [--root FOLDER] [--stubs FILE]
+    b"phpsa check FILE.. [--dtd D] [--limit N] [--nesting] [--json] [--shortest] [--root FOLDER] [--stubs FILE]
 phpsa run FILE [--request FILE] [--steps N] [--root FOLDER] [--stubs FILE]
 phpsa page FILE [--dtd D] [--root FOLDER]
 phpsa grammar FILE [--root FOLDER] [--stubs FILE]
