@@ -254,8 +254,9 @@ completes() {
 }
 cd "$site/list/mended" || exit 1
 completes check phpsa ch
-completes '--dtd --limit --nesting --json --root --stubs --help' phpsa check --
+completes '--dtd --limit --nesting --json --shortest --root --stubs --help' phpsa check --
 completes '--root --stubs --help' phpsa grammar --
+completes '--policy --root --stubs --help' phpsa match --
 completes guests.php phpsa run --stubs gu
 completes 'strict mini guests.php' phpsa check --dtd =
 completes guests.php phpsa run gu

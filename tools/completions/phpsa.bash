@@ -11,7 +11,7 @@ _phpsa() {
     before=${COMP_WORDS[at - 2]}
   fi
   if ((at == 1)); then
-    mapfile -t COMPREPLY < <(compgen -W 'check run page grammar make site help --help --version' -- "$word")
+    mapfile -t COMPREPLY < <(compgen -W 'check run page grammar make match site help --help --version' -- "$word")
     return
   fi
   case $before in
@@ -26,24 +26,25 @@ _phpsa() {
       compopt -o filenames 2>/dev/null
       return
       ;;
-    --request | --stubs)
+    --request | --stubs | --policy)
       mapfile -t COMPREPLY < <(compgen -f -- "$word")
       compopt -o filenames 2>/dev/null
       return
       ;;
   esac
   case $command in
-    check) list='--dtd --limit --nesting --json --root --stubs --help' ;;
+    check) list='--dtd --limit --nesting --json --shortest --root --stubs --help' ;;
     run) list='--request --steps --root --stubs --help' ;;
     page) list='--dtd --root --help' ;;
     grammar) list='--root --stubs --help' ;;
     make) list='--check --help' ;;
+    match) list='--policy --root --stubs --help' ;;
     site) list='--dtd --limit --nesting --root --stubs --help' ;;
     *) list= ;;
   esac
   if [[ $word == -* ]]; then
     mapfile -t COMPREPLY < <(compgen -W "$list" -- "$word")
-  elif [[ $command == check || $command == run || $command == page || $command == grammar || $command == site ]]; then
+  elif [[ $command == check || $command == run || $command == page || $command == grammar || $command == match || $command == site ]]; then
     mapfile -t COMPREPLY < <(compgen -f -- "$word")
     compopt -o filenames 2>/dev/null
   fi

@@ -11,6 +11,7 @@ const CHECK: CommandLine<'static> = CommandLine::Check {
     limit: 10_000,
     by_nesting: false,
     as_json: false,
+    is_shortest: false,
 };
 
 /// Whether the words, one behind each space, ask for this, or for nothing with this reason.
@@ -48,6 +49,7 @@ fn words(rt: HostRuntime) -> Result<(), Fail> {
         limit: 9,
         by_nesting: true,
         as_json: true,
+        is_shortest: true,
     };
     let run = CommandLine::Run {
         file: "-",
@@ -60,11 +62,11 @@ fn words(rt: HostRuntime) -> Result<(), Fail> {
         ("check t.php", Ok(CHECK)),
         ("check -- t.php", Ok(CHECK)),
         (
-            "check t.php --dtd d.dtd --limit 9 --nesting --json --root site --stubs env.php",
+            "check t.php --dtd d.dtd --limit 9 --nesting --json --shortest --root site --stubs env.php",
             Ok(all),
         ),
         (
-            "check --stubs=env.php --json --limit=9 --root=site --nesting t.php --dtd=d.dtd",
+            "check --stubs=env.php --json --limit=9 --root=site --nesting t.php --shortest --dtd=d.dtd",
             Ok(all),
         ),
         ("run --request r.json -", Ok(run)),
@@ -109,6 +111,16 @@ fn words(rt: HostRuntime) -> Result<(), Fail> {
                 by_nesting: true,
             }),
         ),
+        (
+            "match --root=. t.php --policy p.txt",
+            Ok(CommandLine::Match {
+                file: "t.php",
+                policy: "p.txt",
+                root: Some("."),
+                stubs: None,
+            }),
+        ),
+        ("match t.php", Err(None)),
         (
             "grammar --stubs env.php t.php",
             Ok(CommandLine::Grammar {

@@ -95,7 +95,8 @@ words_lead row (inr (inr (inl e))) = subst (λ (r : Row). options_of commands r.
 words_lead row (inr (inr (inr (inl e)))) = subst (λ (r : Row). options_of commands r.word ≡ r.options) (sym e) refl
 words_lead row (inr (inr (inr (inr (inl e))))) = subst (λ (r : Row). options_of commands r.word ≡ r.options) (sym e) refl
 words_lead row (inr (inr (inr (inr (inr (inl e)))))) = subst (λ (r : Row). options_of commands r.word ≡ r.options) (sym e) refl
-words_lead row (inr (inr (inr (inr (inr (inr e)))))) = absurd e
+words_lead row (inr (inr (inr (inr (inr (inr (inl e))))))) = subst (λ (r : Row). options_of commands r.word ≡ r.options) (sym e) refl
+words_lead row (inr (inr (inr (inr (inr (inr (inr e))))))) = absurd e
 
 pub row_names : (row : Row) → IsAmong row commands → RowNames row
 row_names row e =

@@ -22,5 +22,8 @@ pub(crate) fn takes(word: &str, name: &str) -> bool
     if word == "make" {
         return false;
     }
-    word == "site" && (name == "dtd" || name == "limit" || name == "root" || name == "stubs")
+    if word == "site" {
+        return name == "dtd" || name == "limit" || name == "root" || name == "stubs";
+    }
+    word == "match" && (name == "policy" || name == "root" || name == "stubs")
 }

@@ -8,7 +8,7 @@ use Rattle.clap.specs.Lexer.{long_of}
 use Rattle.clap.proofs.OnLiterals.{clap_on_literals}
 use Rattle.command_words.specs.Program as program
 use Rattle.command_words.specs.Program.{Row as Command, commands}
-use Rattle.command_words.specs.Asked.{Values, asked_by, asked_check, asked_run, asked_page, asked_grammar, asked_make, asked_site, asked_first, has_help, help, is_given, is_help}
+use Rattle.command_words.specs.Asked.{Values, asked_by, asked_check, asked_run, asked_page, asked_grammar, asked_make, asked_site, asked_match, asked_first, has_help, help, is_given, is_help}
 use Rattle.command_words.specs.Canonical.{IsAmong}
 use Rattle.command_words.proofs.Rows.{below, option_rule, flag_rule}
 use Rattle.command_words.proofs.Steps.{Table, Enters, LeavesAlone}
@@ -57,16 +57,16 @@ check_table = record {
   option_long = each (λ n. arg_by_long (below (program.command program.check)).rules n ≡ Some (option_rule n)) program.check.options (refl, (refl, (refl, (refl, tt))));
   option_id = each (λ n. arg_by_id (below (program.command program.check)).rules n ≡ Some (option_rule n)) program.check.options (refl, (refl, (refl, (refl, tt))));
   option_same = each (λ n. bytes_eq n n ≡ true) program.check.options (refl, (refl, (refl, (refl, tt))));
-  flag_long = each (λ n. arg_by_long (below (program.command program.check)).rules n ≡ Some (flag_rule n)) program.check.flags (refl, (refl, tt));
+  flag_long = each (λ n. arg_by_long (below (program.command program.check)).rules n ≡ Some (flag_rule n)) program.check.flags (refl, (refl, (refl, tt)));
   joined_long = λ n v. each (λ m. long_of (45 ∷ 45 ∷ m ++ 61 ∷ v) ≡ Some (m, Some v)) program.check.options (refl, (refl, (refl, (refl, tt)))) n;
   joined_bare = λ n v. each (λ m. bytes_eq (45 ∷ 45 ∷ m ++ 61 ∷ v) (45 ∷ 45 ∷ []) ≡ false) program.check.options (refl, (refl, (refl, (refl, tt)))) n;
   joined_free = λ n v. each (λ m. is_help (45 ∷ 45 ∷ m ++ 61 ∷ v) ≡ false) program.check.options (refl, (refl, (refl, (refl, tt)))) n;
   option_text = each (λ n. long_of (45 ∷ 45 ∷ n) ≡ Some (n, None)) program.check.options (refl, (refl, (refl, (refl, tt))));
   option_bare = each (λ n. bytes_eq (45 ∷ 45 ∷ n) (45 ∷ 45 ∷ []) ≡ false) program.check.options (refl, (refl, (refl, (refl, tt))));
   option_free = each (λ n. is_help (45 ∷ 45 ∷ n) ≡ false) program.check.options (refl, (refl, (refl, (refl, tt))));
-  flag_text = each (λ n. long_of (45 ∷ 45 ∷ n) ≡ Some (n, None)) program.check.flags (refl, (refl, tt));
-  flag_bare = each (λ n. bytes_eq (45 ∷ 45 ∷ n) (45 ∷ 45 ∷ []) ≡ false) program.check.flags (refl, (refl, tt));
-  flag_free = each (λ n. is_help (45 ∷ 45 ∷ n) ≡ false) program.check.flags (refl, (refl, tt));
+  flag_text = each (λ n. long_of (45 ∷ 45 ∷ n) ≡ Some (n, None)) program.check.flags (refl, (refl, (refl, tt)));
+  flag_bare = each (λ n. bytes_eq (45 ∷ 45 ∷ n) (45 ∷ 45 ∷ []) ≡ false) program.check.flags (refl, (refl, (refl, tt)));
+  flag_free = each (λ n. is_help (45 ∷ 45 ∷ n) ≡ false) program.check.flags (refl, (refl, (refl, tt)));
 }
 
 check_enters : Enters (built program.phpsa) (codes "check") (below (program.command program.check))
@@ -81,8 +81,8 @@ check_enters = record {
   valid = refl;
 }
 
-check_alike : (v w : Values) → v (codes "FILE") ≡ w (codes "FILE") → v (codes "dtd") ≡ w (codes "dtd") → v (codes "limit") ≡ w (codes "limit") → v (codes "root") ≡ w (codes "root") → v (codes "stubs") ≡ w (codes "stubs") → is_given (v (codes "nesting")) ≡ is_given (w (codes "nesting")) → is_given (v (codes "json")) ≡ is_given (w (codes "json")) → asked_check v ≡ asked_check w
-check_alike v w e0 e1 e2 e3 e4 e5 e6 = rw (e0, e1, e2, e3, e4, e5, e6) refl
+check_alike : (v w : Values) → v (codes "FILE") ≡ w (codes "FILE") → v (codes "dtd") ≡ w (codes "dtd") → v (codes "limit") ≡ w (codes "limit") → v (codes "root") ≡ w (codes "root") → v (codes "stubs") ≡ w (codes "stubs") → is_given (v (codes "nesting")) ≡ is_given (w (codes "nesting")) → is_given (v (codes "json")) ≡ is_given (w (codes "json")) → is_given (v (codes "shortest")) ≡ is_given (w (codes "shortest")) → asked_check v ≡ asked_check w
+check_alike v w e0 e1 e2 e3 e4 e5 e6 e7 = rw (e0, e1, e2, e3, e4, e5, e6, e7) refl
 
 check_known : Known program.check
 unfolding program.phpsa clap_on_literals
@@ -90,9 +90,9 @@ check_known = record {
   enters = check_enters;
   entered_is = λ ws. refl;
   table = check_table;
-  alike = λ v w e. check_alike v w (e.texts (codes "FILE") (inl refl)) (e.texts (codes "dtd") (inr (inl refl))) (e.texts (codes "limit") (inr (inr (inl refl)))) (e.texts (codes "root") (inr (inr (inr (inl refl))))) (e.texts (codes "stubs") (inr (inr (inr (inr (inl refl)))))) (e.flags (codes "nesting") (inl refl)) (e.flags (codes "json") (inr (inl refl)));
-  alone = each (λ n. LeavesAlone n (below (program.command program.check)).rules) (program.check.place ∷ program.check.options) ((inr refl, (inr refl, (inr refl, (inr refl, (inr refl, (inl refl, (inl refl, tt))))))), ((inr refl, (inr refl, (inr refl, (inr refl, (inr refl, (inl refl, (inl refl, tt))))))), ((inr refl, (inr refl, (inr refl, (inr refl, (inr refl, (inl refl, (inl refl, tt))))))), ((inr refl, (inr refl, (inr refl, (inr refl, (inr refl, (inl refl, (inl refl, tt))))))), ((inr refl, (inr refl, (inr refl, (inr refl, (inr refl, (inl refl, (inl refl, tt))))))), tt)))));
-  unset = (refl, (refl, (refl, (refl, (refl, (refl, (refl, tt)))))));
+  alike = λ v w e. check_alike v w (e.texts (codes "FILE") (inl refl)) (e.texts (codes "dtd") (inr (inl refl))) (e.texts (codes "limit") (inr (inr (inl refl)))) (e.texts (codes "root") (inr (inr (inr (inl refl))))) (e.texts (codes "stubs") (inr (inr (inr (inr (inl refl)))))) (e.flags (codes "nesting") (inl refl)) (e.flags (codes "json") (inr (inl refl))) (e.flags (codes "shortest") (inr (inr (inl refl))));
+  alone = each (λ n. LeavesAlone n (below (program.command program.check)).rules) (program.check.place ∷ program.check.options) ((inr refl, (inr refl, (inr refl, (inr refl, (inr refl, (inl refl, (inl refl, (inl refl, tt)))))))), ((inr refl, (inr refl, (inr refl, (inr refl, (inr refl, (inl refl, (inl refl, (inl refl, tt)))))))), ((inr refl, (inr refl, (inr refl, (inr refl, (inr refl, (inl refl, (inl refl, (inl refl, tt)))))))), ((inr refl, (inr refl, (inr refl, (inr refl, (inr refl, (inl refl, (inl refl, (inl refl, tt)))))))), ((inr refl, (inr refl, (inr refl, (inr refl, (inr refl, (inl refl, (inl refl, (inl refl, tt)))))))), tt)))));
+  unset = (refl, (refl, (refl, (refl, (refl, (refl, (refl, (refl, tt))))))));
   first = λ ws. refl;
 }
 
@@ -361,6 +361,59 @@ site_known = record {
   first = λ ws. refl;
 }
 
+-- `match`
+
+match_table : Table (below (program.command program.match_pattern)) program.match_pattern
+unfolding clap_on_literals
+match_table = record {
+  own = refl;
+  valid = λ rows e. rw e refl;
+  defaults = refl;
+  sees = refl;
+  by_index = refl;
+  place_id = refl;
+  option_long = each (λ n. arg_by_long (below (program.command program.match_pattern)).rules n ≡ Some (option_rule n)) program.match_pattern.options (refl, (refl, (refl, tt)));
+  option_id = each (λ n. arg_by_id (below (program.command program.match_pattern)).rules n ≡ Some (option_rule n)) program.match_pattern.options (refl, (refl, (refl, tt)));
+  option_same = each (λ n. bytes_eq n n ≡ true) program.match_pattern.options (refl, (refl, (refl, tt)));
+  flag_long = each (λ n. arg_by_long (below (program.command program.match_pattern)).rules n ≡ Some (flag_rule n)) program.match_pattern.flags tt;
+  joined_long = λ n v. each (λ m. long_of (45 ∷ 45 ∷ m ++ 61 ∷ v) ≡ Some (m, Some v)) program.match_pattern.options (refl, (refl, (refl, tt))) n;
+  joined_bare = λ n v. each (λ m. bytes_eq (45 ∷ 45 ∷ m ++ 61 ∷ v) (45 ∷ 45 ∷ []) ≡ false) program.match_pattern.options (refl, (refl, (refl, tt))) n;
+  joined_free = λ n v. each (λ m. is_help (45 ∷ 45 ∷ m ++ 61 ∷ v) ≡ false) program.match_pattern.options (refl, (refl, (refl, tt))) n;
+  option_text = each (λ n. long_of (45 ∷ 45 ∷ n) ≡ Some (n, None)) program.match_pattern.options (refl, (refl, (refl, tt)));
+  option_bare = each (λ n. bytes_eq (45 ∷ 45 ∷ n) (45 ∷ 45 ∷ []) ≡ false) program.match_pattern.options (refl, (refl, (refl, tt)));
+  option_free = each (λ n. is_help (45 ∷ 45 ∷ n) ≡ false) program.match_pattern.options (refl, (refl, (refl, tt)));
+  flag_text = each (λ n. long_of (45 ∷ 45 ∷ n) ≡ Some (n, None)) program.match_pattern.flags tt;
+  flag_bare = each (λ n. bytes_eq (45 ∷ 45 ∷ n) (45 ∷ 45 ∷ []) ≡ false) program.match_pattern.flags tt;
+  flag_free = each (λ n. is_help (45 ∷ 45 ∷ n) ≡ false) program.match_pattern.flags tt;
+}
+
+match_enters : Enters (built program.phpsa) (codes "match") (below (program.command program.match_pattern))
+unfolding program.phpsa clap_on_literals
+match_enters = record {
+  first = refl;
+  turn = refl;
+  enters = λ ws. refl;
+  is_met = λ ws. refl;
+  settles = refl;
+  defaults = refl;
+  valid = refl;
+}
+
+match_alike : (v w : Values) → v (codes "FILE") ≡ w (codes "FILE") → v (codes "policy") ≡ w (codes "policy") → v (codes "root") ≡ w (codes "root") → v (codes "stubs") ≡ w (codes "stubs") → asked_match v ≡ asked_match w
+match_alike v w e0 e1 e2 e3 = rw (e0, e1, e2, e3) refl
+
+match_known : Known program.match_pattern
+unfolding program.phpsa clap_on_literals
+match_known = record {
+  enters = match_enters;
+  entered_is = λ ws. refl;
+  table = match_table;
+  alike = λ v w e. match_alike v w (e.texts (codes "FILE") (inl refl)) (e.texts (codes "policy") (inr (inl refl))) (e.texts (codes "root") (inr (inr (inl refl)))) (e.texts (codes "stubs") (inr (inr (inr (inl refl)))));
+  alone = each (λ n. LeavesAlone n (below (program.command program.match_pattern)).rules) (program.match_pattern.place ∷ program.match_pattern.options) ((inr refl, (inr refl, (inr refl, (inr refl, tt)))), ((inr refl, (inr refl, (inr refl, (inr refl, tt)))), ((inr refl, (inr refl, (inr refl, (inr refl, tt)))), ((inr refl, (inr refl, (inr refl, (inr refl, tt)))), tt))));
+  unset = (refl, (refl, (refl, (refl, tt))));
+  first = λ ws. refl;
+}
+
 -- each command is known
 pub known : (row : Command) → IsAmong row commands → Known row
-known = each Known commands (check_known, (run_known, (page_known, (grammar_known, (make_known, (site_known, tt))))))
+known = each Known commands (check_known, (run_known, (page_known, (grammar_known, (make_known, (site_known, (match_known, tt)))))))

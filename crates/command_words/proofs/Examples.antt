@@ -54,7 +54,7 @@ an_option_is_not_plain : IsPlain (codes "-x") → ⊥
 an_option_is_not_plain e = absurd (true≢false e)
 
 a_check : IsCanonical (codes "check" ∷ codes "--json" ∷ codes "--root=pages" ∷ codes "--" ∷ codes "-" ∷ [])
-    (asked.check (codes "-") (codes "strict") (Some (codes "pages")) None 10000 false true)
+    (asked.check (codes "-") (codes "strict") (Some (codes "pages")) None 10000 false true false)
 a_check = canonical check (flag (codes "json") ∷ joined (codes "root") (codes "pages") ∷ []) (Some (codes "-")) (inl refl) ((inr (inl refl), refl), ((refl, inr (inr (inl refl)), refl), refl)) refl refl
 
 a_file_of_stubs : IsCanonical (codes "run" ∷ codes "--stubs=env.php" ∷ codes "t.php" ∷ []) (asked.run (codes "t.php") None (Some (codes "env.php")) None 10000000)

@@ -13,12 +13,13 @@ use Rattle.command_words.specs.Program.{phpsa}
 pub data Asked : Type 0 where
   help : Asked
   version : Asked
-  check : (file definition : Text) (root stubs : Option Text) (limit : ℕ) (by_nesting as_json : Bool) → Asked
+  check : (file definition : Text) (root stubs : Option Text) (limit : ℕ) (by_nesting as_json is_shortest : Bool) → Asked
   run : (file : Text) (root stubs request : Option Text) (steps : ℕ) → Asked
   page : (file definition : Text) (root : Option Text) → Asked
   grammar : (file : Text) (root stubs : Option Text) → Asked
   make : (functions : ℕ) (is_checked : Bool) → Asked
   site : (file definition : Text) (root stubs : Option Text) (limit : ℕ) (by_nesting : Bool) → Asked
+  match_pattern : (file policy : Text) (root stubs : Option Text) → Asked
 
 -- what words say of each argument, by its name
 abbrev pub Values : Type 0
@@ -51,7 +52,7 @@ definition_of values = unwrap_or (values (codes "dtd")) (codes "strict")
 abbrev pub asked_check : Values → Option Asked
 asked_check values = option_and_then (λ file. option_map
     (λ limit. check file (definition_of values) (values (codes "root")) (values (codes "stubs")) limit
-    (is_given (values (codes "nesting"))) (is_given (values (codes "json"))))
+    (is_given (values (codes "nesting"))) (is_given (values (codes "json"))) (is_given (values (codes "shortest"))))
     (number_or PAIR_LIMIT (values (codes "limit")))) (values (codes "FILE"))
 
 -- what `run` asks for; None where the file is missing or the most steps are no number
@@ -78,6 +79,11 @@ asked_site values = option_and_then (λ file. option_map
     (λ limit. site file (definition_of values) (values (codes "root")) (values (codes "stubs")) limit (is_given (values (codes "nesting"))))
     (number_or PAIR_LIMIT (values (codes "limit")))) (values (codes "FILE"))
 
+-- what `match` asks for; None where the file or that of the pattern is missing
+abbrev pub asked_match : Values → Option Asked
+asked_match values = option_and_then (λ file. option_map
+    (λ policy. match_pattern file policy (values (codes "root")) (values (codes "stubs"))) (values (codes "policy"))) (values (codes "FILE"))
+
 -- what the command of this word asks for
 abbrev pub asked_by : Text → Values → Option Asked
 asked_by word values =
@@ -86,7 +92,8 @@ asked_by word values =
     else (if bytes_eq word (codes "page") then asked_page values
     else (if bytes_eq word (codes "grammar") then asked_grammar values
     else (if bytes_eq word (codes "make") then asked_make values
-    else (if bytes_eq word (codes "site") then asked_site values else None)))))
+    else (if bytes_eq word (codes "site") then asked_site values
+    else (if bytes_eq word (codes "match") then asked_match values else None))))))
 
 -- what stands in the rows that `clap` makes of words
 abbrev pub values_of : List clap.Row → Values

@@ -17,7 +17,7 @@ row_of word place options flags = record { word = word; place = place; options =
 
 -- `phpsa check`: a script is decided
 abbrev pub check : Row
-check = row_of (codes "check") (codes "FILE") (codes "dtd" ∷ codes "limit" ∷ codes "root" ∷ codes "stubs" ∷ []) (codes "nesting" ∷ codes "json" ∷ [])
+check = row_of (codes "check") (codes "FILE") (codes "dtd" ∷ codes "limit" ∷ codes "root" ∷ codes "stubs" ∷ []) (codes "nesting" ∷ codes "json" ∷ codes "shortest" ∷ [])
 
 -- `phpsa run`: a script is run
 abbrev pub run : Row
@@ -39,9 +39,13 @@ make = row_of (codes "make") (codes "N") [] (codes "check" ∷ [])
 abbrev pub site : Row
 site = row_of (codes "site") (codes "FILE") (codes "dtd" ∷ codes "limit" ∷ codes "root" ∷ codes "stubs" ∷ []) (codes "nesting" ∷ [])
 
+-- `phpsa match`: the pages of a script are held against a pattern
+abbrev pub match_pattern : Row
+match_pattern = row_of (codes "match") (codes "FILE") (codes "policy" ∷ codes "root" ∷ codes "stubs" ∷ []) []
+
 -- all commands
 abbrev pub commands : List Row
-commands = check ∷ run ∷ page ∷ grammar ∷ make ∷ site ∷ []
+commands = check ∷ run ∷ page ∷ grammar ∷ make ∷ site ∷ match_pattern ∷ []
 
 -- the one argument without a name, which a command wants
 abbrev pub place : Text → Rule

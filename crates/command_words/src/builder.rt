@@ -113,7 +113,7 @@ fn program<'a>(alloc: Global) -> Result<Command<'a>, AllocError>
         "check",
         "FILE",
         &["dtd", "limit", "root", "stubs"],
-        &["nesting", "json"],
+        &["nesting", "json", "shortest"],
     );
     let run = row_with("run", "FILE", &["request", "steps", "root", "stubs"], &[]);
     let page = row_with("page", "FILE", &["dtd", "root"], &[]);
@@ -125,12 +125,14 @@ fn program<'a>(alloc: Global) -> Result<Command<'a>, AllocError>
         &["dtd", "limit", "root", "stubs"],
         &["nesting"],
     );
+    let match_pattern = row_with("match", "FILE", &["policy", "root", "stubs"], &[]);
     let program = with_command(alloc, bare_program(alloc), check)?;
     let program = with_command(alloc, program, run)?;
     let program = with_command(alloc, program, page)?;
     let program = with_command(alloc, program, grammar)?;
     let program = with_command(alloc, program, make)?;
-    with_command(alloc, program, site)
+    let program = with_command(alloc, program, site)?;
+    with_command(alloc, program, match_pattern)
 }
 
 /// What `clap` makes of the words, or why it does not take them.

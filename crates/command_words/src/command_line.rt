@@ -11,7 +11,8 @@ pub enum CommandLine<'a> {
     /// Tells the version of the program.
     Version,
     /// Decides a script: by the definition of this name, with at most so many pairs of one
-    /// nonterminal, by nesting alone where that is asked for, and the answer as JSON where that is.
+    /// nonterminal, by nesting alone where that is asked for, the answer as JSON where that is, and
+    /// with a shortest page that is not good where that is.
     Check {
         file: &'a str,
         definition: &'a str,
@@ -20,6 +21,7 @@ pub enum CommandLine<'a> {
         limit: u32,
         by_nesting: bool,
         as_json: bool,
+        is_shortest: bool,
     },
     /// Runs a script for the request in a file, or for the empty one, with so many units.
     Run {
@@ -55,5 +57,12 @@ pub enum CommandLine<'a> {
         stubs: Option<&'a str>,
         limit: u32,
         by_nesting: bool,
+    },
+    /// Holds the pages of a script against the pattern in the file of this name.
+    Match {
+        file: &'a str,
+        policy: &'a str,
+        root: Option<&'a str>,
+        stubs: Option<&'a str>,
     },
 }

@@ -54,6 +54,7 @@ fn check_line<'a>(matches: &ArgMatches<'a>) -> Option<CommandLine<'a>>
         limit,
         by_nesting: is_given(matches, "nesting"),
         as_json: is_given(matches, "json"),
+        is_shortest: is_given(matches, "shortest"),
     })
 }
 
@@ -120,6 +121,20 @@ fn site_line<'a>(matches: &ArgMatches<'a>) -> Option<CommandLine<'a>>
     })
 }
 
+fn match_line<'a>(matches: &ArgMatches<'a>) -> Option<CommandLine<'a>>
+    ensures { option_map asked_as result
+        ≡ spec.asked_match (spec.values_of (rows_of (found_of matches.now))) }
+{
+    let file = value(matches, "FILE")?;
+    let policy = value(matches, "policy")?;
+    Some(CommandLine::Match {
+        file,
+        policy,
+        root: value(matches, "root"),
+        stubs: value(matches, "stubs"),
+    })
+}
+
 /// What the command of this word asks for.
 pub(crate) fn line_by<'a>(name: &str, matches: &ArgMatches<'a>) -> Option<CommandLine<'a>>
     ensures { option_map asked_as result
@@ -132,6 +147,7 @@ pub(crate) fn line_by<'a>(name: &str, matches: &ArgMatches<'a>) -> Option<Comman
         "grammar" => grammar_line(matches),
         "make" => make_line(matches),
         "site" => site_line(matches),
+        "match" => match_line(matches),
         _ => None,
     }
 }

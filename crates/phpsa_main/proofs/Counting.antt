@@ -8,7 +8,7 @@ use Rattle.phpsa_texts.specs.declared.exit.Exit.TheVariants.{Done, ReadFault, Wr
 use Rattle.phpsa_texts.specs.declared.message.Refusal.{Refusal}
 use Rattle.phpsa_tasks.specs.declared.reply.Reply.{Reply}
 use Rattle.phpsa_tasks.specs.declared.reply.Reply.TheVariants as reply
-use Rattle.phpsa_tasks.specs.Tasks.{Task, script_check, page_check, script_making, made_check, script_run, grammar_making, list_check, help_telling, version_telling, usage, AsksFor}
+use Rattle.phpsa_tasks.specs.Tasks.{Task, script_check, page_check, script_making, made_check, script_run, grammar_making, list_check, script_match, help_telling, version_telling, usage, AsksFor}
 use Rattle.phpsa_tasks.specs.Call.{Call, Output, IsUnfailed}
 use Rattle.phpsa_tasks.specs.Counted.{uncounted, ReadsNothing, IsWanting, ReadsFor, FaultsAreTold, TellsFault, IsCounted}
 use Rattle.phpsa_tasks.proofs.Faults.{told_anyhow}
@@ -71,13 +71,14 @@ once_or files own status wants (inr (none, was)) = inr (none, wants)
 -- what is read for a task
 read_behind : (task : Task) (files : SourceCall) (own status : Exit) → ReadsFor task files own → Behind own status → ReadsFor task files status
 read_behind task files own status read (inl is) = subst (ReadsFor task files) (sym is) read
-read_behind (script_check file d goal limit form) files own status read (inr wants) = λ built_in. inl (wanting_uncounted status wants)
+read_behind (script_check file d goal limit form choice) files own status read (inr wants) = λ built_in. inl (wanting_uncounted status wants)
 read_behind (page_check file d) files own status read (inr wants) = λ built_in. once_or files own status wants (read built_in)
 read_behind (script_making n) files own status read (inr wants) = read
 read_behind (made_check n) files own status read (inr wants) = read
 read_behind (script_run file request steps) files own status read (inr wants) = inl (wanting_uncounted status wants)
 read_behind (grammar_making file) files own status read (inr wants) = inl (wanting_uncounted status wants)
 read_behind (list_check file d goal limit) files own status read (inr wants) = tt
+read_behind (script_match file policy) files own status read (inr wants) = inl (wanting_uncounted status wants)
 read_behind help_telling files own status read (inr wants) = read
 read_behind version_telling files own status read (inr wants) = read
 read_behind usage files own status read (inr wants) = read
@@ -110,13 +111,14 @@ refused_counts one call task Refusal.Memory status asked does reports out err =
 
 -- no memory was left for the words
 unread : (task : Task) (files : SourceCall) (status : Exit) → ReadsNothing files → IsWanting status → ReadsFor task files status
-unread (script_check file d goal limit form) files status none wants = λ built_in. inl (wanting_uncounted status wants)
+unread (script_check file d goal limit form choice) files status none wants = λ built_in. inl (wanting_uncounted status wants)
 unread (page_check file d) files status none wants = λ built_in. inr (none, wants)
 unread (script_making n) files status none wants = none
 unread (made_check n) files status none wants = none
 unread (script_run file request steps) files status none wants = inl (wanting_uncounted status wants)
 unread (grammar_making file) files status none wants = inl (wanting_uncounted status wants)
 unread (list_check file d goal limit) files status none wants = tt
+unread (script_match file policy) files status none wants = inl (wanting_uncounted status wants)
 unread help_telling files status none wants = none
 unread version_telling files status none wants = none
 unread usage files status none wants = none

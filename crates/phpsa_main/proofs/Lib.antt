@@ -3,6 +3,7 @@ pub mod TellingParts
 pub mod PageParts
 pub mod MadeParts
 pub mod LoadedParts
+pub mod MatchParts
 pub mod ListParts
 pub mod Ended
 pub mod Counting

@@ -127,7 +127,7 @@ refuses files misses reads (Some name) status text (unread fault why status_is t
 refuses files misses reads (Some name) status text (no_request_in bytes cause told why status_is text_is) = no_request_in bytes cause told why status_is text_is
 
 -- the names of the program, which were answered before the request was read, and that of the request
-run_reads : (files : SourceCall) (root : List ℕ) (file : ScriptFile) (request : Option (List ℕ)) (program : PlainProgram) (content : Content) (faults misses reads : ℕ)
+pub run_reads : (files : SourceCall) (root : List ℕ) (file : ScriptFile) (request : Option (List ℕ)) (program : PlainProgram) (content : Content) (faults misses reads : ℕ)
     → Stays content files.content → Loads (source_call content files.faults faults files.misses misses files.reads reads) root file.name file.stubs program
     → ReadsRequest (source_call files.content files.faults files.faults' misses files.misses' reads files.reads') request → ReadsForRun files file request
 run_reads files root file None program content faults misses reads stays l counted = record {
@@ -144,7 +144,7 @@ run_reads files root file (Some asked) program content faults misses reads stays
 )
 
 -- the misses of the program come before the request is read
-run_misses : (files : SourceCall) (root name : List ℕ) (stubs : Option (List ℕ)) (program : PlainProgram) (content : Content) (faults misses reads : ℕ)
+pub run_misses : (files : SourceCall) (root name : List ℕ) (stubs : Option (List ℕ)) (program : PlainProgram) (content : Content) (faults misses reads : ℕ)
     → Stays content files.content → Loads (source_call content files.faults faults files.misses misses files.reads reads) root name stubs program → MissesItsNames files name misses
 run_misses files root name stubs program content faults misses reads stays l = record {
   asks = asked_names (source_call content files.faults faults files.misses misses files.reads reads) files.content root name stubs program stays l;

@@ -33,11 +33,12 @@ use Rattle.phpsa_tasks.specs.Subjects.{IsLoadedInside}
 use Rattle.phpsa_tasks.specs.ScriptAnswers.{answer_status, answer_text}
 use Rattle.phpsa_tasks.specs.Causes.{definition_call, RefusesScript, not_defined, large_models, not_loaded, lacks_definition, has_long_text}
 use Rattle.phpsa_tasks.specs.Counted.{uncounted, AsksForNames, ReadsItsFiles, MissesItsNames, from_misses}
-use Rattle.phpsa_tasks.specs.Results.{Does}
+use Rattle.phpsa_tasks.specs.declared.choice.PageChoice.{PageChoice}
+use Rattle.phpsa_tasks.specs.Results.{TaskResult, Does}
 use Rattle.phpsa_tasks.proofs.Faults.{told_faults, wanted_faults}
 use Rattle.phpsa_tasks.proofs.Defining.{definition_faults}
 use Rattle.phpsa_tasks.proofs.Loading.{at_stubs}
-use Rattle.phpsa_main.specs.Decided.{Decision, IsDecidedAs, Decides, IsProgramRefused, IsProgramDecided}
+use Rattle.phpsa_main.specs.Decided.{Decision, IsDecidedAs, IsReadBy, ReadsBy, Decides, IsProgramRefused, IsProgramDecided, HasShortestReply}
 
 pub load_uncounted : (cause : LoadRefusal) → Contains uncounted (load_status cause)
 load_uncounted (load.Missing name) = (1, lit< tt, refl)
@@ -87,25 +88,25 @@ load_faults call root name stubs (load.TooMany count) (inr large) = inr large.so
 load_faults call root name stubs load.Memory (missed, same) = inr same
 
 -- the program is not loaded
-pub load_decides : (files : SourceCall) (file : ScriptFile) (d : NamedType) (goal : Goal) (limit : ℕ) (cause : LoadRefusal) (refusal : Refusal) → IsLoadCause files (root_of file) file.name file.stubs cause
-    → IsTold refusal (load_status cause) (load_text cause) → Decides files file d goal limit (Err refusal)
-load_decides files file d goal limit cause (Refusal.Told message) why (status_is, text_is) = record {
+pub load_refused : (files : SourceCall) (file : ScriptFile) (d : NamedType) (cause : LoadRefusal) (refusal : Refusal) → IsLoadCause files (root_of file) file.name file.stubs cause
+    → IsTold refusal (load_status cause) (load_text cause) → ReadsBy files file d (Err refusal)
+load_refused files file d cause (Refusal.Told message) why (status_is, text_is) = record {
   why = not_loaded cause why status_is text_is;
   read = λ built_in. inl (subst (Contains uncounted) (sym status_is) (load_uncounted cause));
   faults = told_faults files (load_status cause) message.status status_is (load_faults files (root_of file) file.name file.stubs cause why);
 }
-load_decides files file d goal limit cause Refusal.Memory why says = tt
+load_refused files file d cause Refusal.Memory why says = tt
 
 -- there is no definition
-pub definition_decides : (files : SourceCall) (file : ScriptFile) (d : NamedType) (goal : Goal) (limit : ℕ) (cause : DefinitionRefusal) (refusal : Refusal)
+pub definition_refused : (files : SourceCall) (file : ScriptFile) (d : NamedType) (cause : DefinitionRefusal) (refusal : Refusal)
     (program : PlainProgram) (misses : ℕ) → IsLoadedInside files.content file program → MissesItsNames files file.name misses
-    → IsDefinitionRefusal (definition_call (from_misses misses files)) d cause → (IsBuiltIn d → ReadsItsFiles files file) → IsTold refusal (definition_status cause) (definition_text cause) → Decides files file d goal limit (Err refusal)
-definition_decides files file d goal limit cause (Refusal.Told message) program misses loaded behind why read (status_is, text_is) = record {
+    → IsDefinitionRefusal (definition_call (from_misses misses files)) d cause → (IsBuiltIn d → ReadsItsFiles files file) → IsTold refusal (definition_status cause) (definition_text cause) → ReadsBy files file d (Err refusal)
+definition_refused files file d cause (Refusal.Told message) program misses loaded behind why read (status_is, text_is) = record {
   why = lacks_definition program misses loaded behind (not_defined cause why status_is text_is);
   read = λ built_in. inr (read built_in);
   faults = told_faults files (definition_status cause) message.status status_is (definition_faults (definition_call (from_misses misses files)) d cause why);
 }
-definition_decides files file d goal limit cause Refusal.Memory program misses loaded behind why read says = tt
+definition_refused files file d cause Refusal.Memory program misses loaded behind why read says = tt
 
 program_refused : (files : SourceCall) (file : ScriptFile) (d : NamedType) (table : Table) (program : PlainProgram) (misses : ℕ) (message : Message) → HasTable files.content d table
     → IsLoadedInside files.content file program → MissesItsNames files file.name misses → IsProgramRefused table program file.name message → RefusesScript files file d message.status message.text
@@ -114,17 +115,22 @@ program_refused files file d table program misses message has loaded behind (inr
     lacks_definition program misses loaded behind (large_models table count has many status_is text_is)
 
 -- the program is decided, or not
-pub program_decides : (files : SourceCall) (file : ScriptFile) (d : NamedType) (goal : Goal) (limit : ℕ) (table : Table) (program : PlainProgram) (misses : ℕ) (decision : Decision)
-    → HasTable files.content d table → IsLoadedInside files.content file program → MissesItsNames files file.name misses → (IsBuiltIn d → ReadsItsFiles files file)
-    → files.faults' ≡ files.faults → IsProgramDecided table program file.name goal limit decision → Decides files file d goal limit decision
-program_decides files file d goal limit table program misses (Ok answer) has loaded behind read calm is =
-    record { program = program; table = table; loaded = loaded; has = has; is_answer = is; read = read; calm = calm }
-program_decides files file d goal limit table program misses (Err (Refusal.Told message)) has loaded behind read calm says = record {
-  why = program_refused files file d table program misses message has loaded behind says;
-  read = λ built_in. inr (read built_in);
-  faults = inr calm;
+pub program_decides : (files : SourceCall) (file : ScriptFile) (d : NamedType) (goal : Goal) (limit : ℕ) (table : Table) (program : PlainProgram) (decision : Decision)
+    → IsReadBy files file d program table → IsProgramDecided table program file.name goal limit decision → Decides files file d goal limit decision
+program_decides files file d goal limit table program (Ok answer) by is =
+    record { program = program; table = table; loaded = by.loaded; has = by.has; is_answer = is; read = by.read; calm = by.calm }
+program_decides files file d goal limit table program (Err (Refusal.Told message)) by says = record {
+  why = program_refused files file d table program by.misses message by.has by.loaded by.behind says;
+  read = λ built_in. inr (by.read built_in);
+  faults = inr by.calm;
 }
-program_decides files file d goal limit table program misses (Err Refusal.Memory) has loaded behind read calm says = tt
+program_decides files file d goal limit table program (Err Refusal.Memory) by says = tt
+
+-- or was not read
+pub unread_decides : (files : SourceCall) (file : ScriptFile) (d : NamedType) (goal : Goal) (limit : ℕ) (refusal : Refusal) → ReadsBy files file d (Err refusal)
+    → Decides files file d goal limit (Err refusal)
+unread_decides files file d goal limit (Refusal.Told message) is = is
+unread_decides files file d goal limit Refusal.Memory is = tt
 
 -- what was answered goes on to be so
 pub answers_stay : (before now : Content) (held : Held) (name : List ℕ) → Stays before now → AreAnswered before held name → AreAnswered now held name
@@ -178,13 +184,14 @@ pub misses_its_names : (call : SourceCall) (content : Content) (faults misses re
 misses_its_names call content faults misses reads root name stubs p stays l = record { asks = asked_names call content root name stubs p stays l; counted = l.source.misses }
 
 -- no memory was left
-pub wanting_does : (files : SourceCall) (file : ScriptFile) (d : NamedType) (goal : Goal) (limit : ℕ) (form : AnswerForm)
-    → Does files (script_check file d goal limit form) (Err Refusal.Memory)
-wanting_does files file d goal limit form = record { due = tt; read = λ built_in. inl (5, lit< tt, refl); faults = wanted_faults files }
+pub wanting_does : (files : SourceCall) (file : ScriptFile) (d : NamedType) (goal : Goal) (limit : ℕ) (form : AnswerForm) (choice : PageChoice)
+    → Does files (script_check file d goal limit form choice) (Err Refusal.Memory)
+wanting_does files file d goal limit form choice = record { due = tt; read = λ built_in. inl (5, lit< tt, refl); faults = wanted_faults files }
 
 -- there is an answer
 pub answered_does : (files : SourceCall) (file : ScriptFile) (d : NamedType) (goal : Goal) (limit : ℕ) (form : AnswerForm) (answer : ShownAnswer) (message : Message)
-    → IsDecidedAs files file d goal limit answer → Says message (answer_status answer) (answer_text form answer) → Does files (script_check file d goal limit form) (Ok (reply.Text message))
+    → IsDecidedAs files file d goal limit answer → Says message (answer_status answer) (answer_text form answer)
+    → Does files (script_check file d goal limit form PageChoice.First) (Ok (reply.Text message))
 answered_does files file d goal limit form answer message is (status_is, text_is) = record {
   due = record {
     subject = record { program = is.program; table = is.table };
@@ -197,6 +204,33 @@ answered_does files file d goal limit form answer message is (status_is, text_is
 
 -- and there is none
 pub refused_does : (files : SourceCall) (file : ScriptFile) (d : NamedType) (goal : Goal) (limit : ℕ) (form : AnswerForm) (refusal : Refusal)
-    → Decides files file d goal limit (Err refusal) → Does files (script_check file d goal limit form) (Err refusal)
+    → Decides files file d goal limit (Err refusal) → Does files (script_check file d goal limit form PageChoice.First) (Err refusal)
 refused_does files file d goal limit form (Refusal.Told message) is = record { due = is.why; read = is.read; faults = is.faults }
-refused_does files file d goal limit form Refusal.Memory is = wanting_does files file d goal limit form
+refused_does files file d goal limit form Refusal.Memory is = wanting_does files file d goal limit form PageChoice.First
+
+-- the program is decided with a shortest page, or not
+pub shortest_does : (files : SourceCall) (file : ScriptFile) (d : NamedType) (goal : Goal) (limit : ℕ) (form : AnswerForm) (table : Table) (program : PlainProgram) (result : TaskResult)
+    → IsReadBy files file d program table → HasShortestReply table program file.name goal limit form result → Does files (script_check file d goal limit form PageChoice.Shortest) result
+shortest_does files file d goal limit form table program (Ok (reply.Text message)) by (answer, is, (status_is, text_is)) = record {
+  due = record {
+    subject = record { program = program; table = table };
+    found = (by.loaded, by.has);
+    says = (answer, is, status_is, text_is);
+  };
+  read = λ built_in. inr (by.read built_in);
+  faults = inr by.calm;
+}
+shortest_does files file d goal limit form table program (Ok (reply.Grammar grammar)) by says = absurd says
+shortest_does files file d goal limit form table program (Ok (reply.Halted printed message)) by says = absurd says
+shortest_does files file d goal limit form table program (Err (Refusal.Told message)) by says = record {
+  due = program_refused files file d table program by.misses message by.has by.loaded by.behind says;
+  read = λ built_in. inr (by.read built_in);
+  faults = inr by.calm;
+}
+shortest_does files file d goal limit form table program (Err Refusal.Memory) by says = wanting_does files file d goal limit form PageChoice.Shortest
+
+-- or was not read
+pub unread_does : (files : SourceCall) (file : ScriptFile) (d : NamedType) (goal : Goal) (limit : ℕ) (form : AnswerForm) (refusal : Refusal) → ReadsBy files file d (Err refusal)
+    → Does files (script_check file d goal limit form PageChoice.Shortest) (Err refusal)
+unread_does files file d goal limit form (Refusal.Told message) is = record { due = is.why; read = is.read; faults = is.faults }
+unread_does files file d goal limit form Refusal.Memory is = wanting_does files file d goal limit form PageChoice.Shortest

@@ -9,13 +9,13 @@ ghost use Rattle.site_check.specs.Site.{moment, Leads};
 ghost use Rattle.phpsa_tasks.specs.Views.{script_file_as};
 ghost use Rattle.phpsa_main.specs.Decided.{Decides, DecidesBy, IsProgramDecided};
 
-use crate::loading::load_script;
+use crate::loading::{load_script, read_script};
 use document_types::DocumentType;
 use dtd_model::Dtd;
 use io_edge::Files;
 use page_decision::Goal;
 use phpsa_tasks::ScriptFile;
-use phpsa_texts::{Refusal, definition_refusal, load_refusal, long_text_refusal, states_refusal};
+use phpsa_texts::{Refusal, load_refusal, long_text_refusal, states_refusal};
 use program_rules::Program;
 use script_decision::{CheckRefusal, ShownAnswer, check_shown};
 use std::alloc::Global;
@@ -62,15 +62,11 @@ pub(crate) fn decide_script<F: Files>(
         (script_file_as file.entry) (type_of document_type.entry) goal limit result }
     ensures stays { Stays (F.content files.old) (F.content files.new) }
 {
-    let program = match load_script(alloc, file, files) {
-        Ok(program) => program,
-        Err(refusal) => return Err(load_refusal(alloc, &refusal)),
+    let script = match read_script(alloc, file, document_type, files) {
+        Ok(script) => script,
+        Err(refusal) => return Err(refusal),
     };
-    let dtd = match document_type.definition(alloc, files) {
-        Ok(dtd) => dtd,
-        Err(refusal) => return Err(definition_refusal(alloc, &refusal)),
-    };
-    decided(alloc, file.name, &program, &dtd, goal, limit)
+    decided(alloc, file.name, &script.program, &script.dtd, goal, limit)
 }
 
 /// Decides the script of the file, with all that it includes, as `decide_script` does, by a

@@ -8,11 +8,13 @@ use crate::grammars::make_grammar;
 use crate::lists::check_list;
 use crate::made::check_made;
 use crate::making::make_script;
+use crate::matching::match_script;
 use crate::page::judge_page;
 use crate::running::run_script;
 use crate::script::check_script;
+use crate::shortest::check_with_shortest;
 use io_edge::Files;
-use phpsa_tasks::{Reply, Task};
+use phpsa_tasks::{PageChoice, Reply, Task};
 use phpsa_texts::{Refusal, help_message, usage_refusal, version_message};
 use std::alloc::Global;
 
@@ -33,7 +35,16 @@ pub(crate) fn result_of<F: Files>(
             goal,
             limit,
             form,
+            choice: PageChoice::First,
         } => check_script(alloc, file, document_type, goal, limit, form, files),
+        Task::ScriptCheck {
+            file,
+            document_type,
+            goal,
+            limit,
+            form,
+            choice: PageChoice::Shortest,
+        } => check_with_shortest(alloc, file, document_type, goal, limit, form, files),
         Task::PageCheck {
             file,
             document_type,
@@ -52,6 +63,7 @@ pub(crate) fn result_of<F: Files>(
             goal,
             limit,
         } => check_list(alloc, file, document_type, goal, limit, files),
+        Task::ScriptMatch { file, policy } => match_script(alloc, file, policy, files),
         Task::Help => Ok(Reply::Text(help_message(alloc)?)),
         Task::Version => Ok(Reply::Text(version_message(alloc)?)),
         Task::Usage { reason: None } => Err(usage_refusal(alloc, None)),

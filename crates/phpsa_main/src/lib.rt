@@ -20,10 +20,12 @@ mod lists;
 mod loading;
 mod made;
 mod making;
+mod matching;
 mod page;
 mod report;
 mod running;
 mod script;
+mod shortest;
 mod site_lines;
 
 use crate::doing::result_of;
@@ -42,12 +44,12 @@ use text_base::NoMemory;
 /// with.
 ///
 /// The words are a command, its file or number, and its options in any order: `check FILE`, `run
-/// FILE`, `page FILE`, `grammar FILE`, `make N` and `site FILE`; or they ask for help or the version
+/// FILE`, `page FILE`, `grammar FILE`, `make N`, `match FILE` and `site FILE`; or they ask for help or the version
 /// (`docs/command-line.md`). The file is read first, of a script with all that it includes, each
-/// once, and then what the document type asks for, and last the scripts of a list. A reply is written on `out`: of `check` it is
+/// once, and then what the document type asks for, or the pattern, and last the scripts of a list. A reply is written on `out`: of `check` it is
 /// `yes`, or `no`, the length of a loose page that is not good, and its first 1,048,576 bytes, or
 /// `undecided` with the count that was passed; of `run` what the script prints; of `page` `valid`
-/// or `invalid`; of `grammar` the grammar of the loose pages; of `make` the script, or what `check`
+/// or `invalid`; of `match` as of `check`; of `grammar` the grammar of the loose pages; of `make` the script, or what `check`
 /// says of it; of `site` a line of JSON for each script; of help and the version their text. Every other ending is written on `err`, as
 /// `phpsa: KIND` with the name of the file or function that it is about, where there is one, or
 /// with a line that says what is wrong with the words; of a run that does not come to its end what

@@ -2,6 +2,7 @@
 
 ghost use Rattle.program_files.specs.Source.{source_call};
 ghost use Rattle.document_types.specs.DocumentTypes.{type_of};
+ghost use Rattle.phpsa_tasks.specs.declared.choice.PageChoice.TheVariants.{First};
 ghost use Rattle.phpsa_tasks.specs.Tasks.{script_check};
 ghost use Rattle.phpsa_tasks.specs.Views.{script_file_as};
 ghost use Rattle.phpsa_tasks.specs.Results.{Does};
@@ -33,7 +34,7 @@ pub(crate) fn check_script<F: Files>(
 ) -> Result<Reply, Refusal>
     ensures { Does (source_call (F.content files.new) (F.faults files.old) (F.faults files.new)
         (F.misses files.old) (F.misses files.new) (F.reads files.old) (F.reads files.new))
-        (script_check (script_file_as file.entry) (type_of document_type.entry) goal limit form) result }
+        (script_check (script_file_as file.entry) (type_of document_type.entry) goal limit form First) result }
 {
     let answer = match decide_script(alloc, file, document_type, goal, limit, files) {
         Ok(answer) => answer,

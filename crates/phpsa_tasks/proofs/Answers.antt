@@ -7,18 +7,19 @@ use Rattle.command_words.specs.Asked.{Asked, Asks, AsksNothing}
 use Rattle.command_words.specs.Canonical.{IsCanonical}
 use Rattle.phpsa_texts.specs.declared.exit.Exit.{Exit}
 use Rattle.phpsa_texts.specs.declared.exit.Exit.TheVariants.{WriteFault, Usage, Memory}
-use Rattle.phpsa_tasks.specs.Tasks.{ScriptFile, Task, script_check, page_check, script_making, made_check, script_run, grammar_making, list_check, help_telling, version_telling, usage, task_of, AsksFor, asks, asks_nothing}
+use Rattle.phpsa_tasks.specs.Tasks.{ScriptFile, Task, script_check, page_check, script_making, made_check, script_run, grammar_making, list_check, script_match, help_telling, version_telling, usage, task_of, AsksFor, asks, asks_nothing}
 use Rattle.phpsa_tasks.specs.Call.{Call, Gains, GainsNothing}
 use Rattle.phpsa_tasks.specs.Subjects.{Subject, Finds, Holds, IsWithin, LacksFile}
 use Rattle.phpsa_tasks.specs.Replies.{Replies, Halts}
 use Rattle.phpsa_tasks.specs.Causes.{Refuses}
 use Rattle.phpsa_tasks.specs.Endings.{OwesReply, OwesRefusal, of_task, wants_memory, OwesHalt, Ends, replied, refused, halted, by_out, by_err, no_memory}
-use Rattle.phpsa_tasks.specs.Answered.{IsUndisturbed, IsVerdict, IsStopped, statuses_of_nothing, IsNotRun, TellsCause, IsAnswered}
+use Rattle.phpsa_tasks.specs.Answered.{IsUndisturbed, IsVerdict, IsStopped, statuses_of_nothing, IsNotRun, TellsCause, IsNotMatched, TellsPolicy, IsAnswered}
 use Rattle.phpsa_tasks.proofs.Verdicts.{one_verdict}
 use Rattle.phpsa_tasks.proofs.Held.{OneProgram, ProgramLaws, held_reply, held_halt, held_refusal}
 use Rattle.phpsa_tasks.proofs.Never.{told_usage, no_reply, no_halt, asks_more}
 use Rattle.phpsa_tasks.proofs.Nothing.{of_memory, of_refusal}
 use Rattle.phpsa_tasks.proofs.NotRun.{no_finding, cause_told}
+use Rattle.phpsa_tasks.proofs.NotMatched.{no_pattern_found, policy_told}
 
 abbrev pub OneTask : Type 0
 OneTask = (words : List (List ℕ)) (task other : Task) → AsksFor words task → AsksFor words other → task ≡ other
@@ -70,7 +71,7 @@ exact_from one content task x status verdict w v (inr stopped) = inr stopped
 
 -- a task that finds something does not lack it
 found_nothing : (content : Content) (task : Task) (x : Subject task) → LacksFile content task → Finds content task x → ⊥
-found_nothing content (script_check file d goal limit form) x none (found, has) = none x.program found
+found_nothing content (script_check file d goal limit form choice) x none (found, has) = none x.program found
 found_nothing content (page_check file d) x none (found, has) = none x.page found
 found_nothing content (script_making n) x lacks found = lacks
 found_nothing content (made_check n) x lacks (size, found, has) = lacks size
@@ -78,6 +79,8 @@ found_nothing content (script_run file request steps) x (inl none) (found, finds
 found_nothing content (script_run file request steps) x (inr none) (found, finds, admitted) = none x.request finds
 found_nothing content (grammar_making file) x lacks found = lacks x found
 found_nothing content (list_check file d goal limit) x none (found, has, good) = none x.list found
+found_nothing content (script_match file name) x (inl none) (found, finds) = none x.program found
+found_nothing content (script_match file name) x (inr none) (found, finds) = none x.pattern finds
 found_nothing content help_telling x lacks found = lacks
 found_nothing content version_telling x lacks found = lacks
 found_nothing content usage x lacks found = lacks
@@ -121,6 +124,26 @@ not_run laws call status (by_out is e) file name steps cause asked u n = absurd 
 not_run laws call status (by_err is e) file name steps cause asked u n = absurd (u.err e.failed)
 not_run laws call status (no_memory is e) file name steps cause asked u n = inr is
 
+-- nor is a program matched that is held, where the file of the pattern spells none
+not_matched_of : Laws → (call : Call) (status : Exit) (text : List ℕ) (file : ScriptFile) (name : List ℕ) → IsUndisturbed call → (n : IsNotMatched call file name)
+    → GainsNothing call.out → Gains call.err text → Refuses call.files (script_match file name) status text ⊎ (status ≡ Memory) → TellsPolicy call n.none.bytes status ⊎ (status ≡ Memory)
+not_matched_of laws call status text file name u n out err (inl why) = policy_told laws.programs call status text file name u.files n out err why
+not_matched_of laws call status text file name u n out err (inr is) = inr is
+
+not_matched : Laws → (call : Call) (status : Exit) → Ends call status → (file : ScriptFile) (name : List ℕ) → AsksFor call.words (script_match file name)
+    → IsUndisturbed call → (n : IsNotMatched call file name) → TellsPolicy call n.none.bytes status ⊎ (status ≡ Memory)
+not_matched laws call status (replied e) file name asked u n =
+    let r : Replies call.files (script_match file name) status e.text = the_reply laws.one_task call status e.text e.owed (script_match file name) asked in
+    absurd (no_pattern_found call.files.content name r.subject.pattern n.none r.found.1)
+not_matched laws call status (refused e) file name asked u n =
+    not_matched_of laws call status e.text file name u n e.out e.err (the_refusal laws.one_task call status e.text e.owed (script_match file name) asked)
+not_matched laws call status (halted e) file name asked u n =
+    let r : Halts call.files (script_match file name) status e.printed e.text = the_halt laws.one_task call status e.printed e.text e.owed (script_match file name) asked in
+    absurd r.says
+not_matched laws call status (by_out is e) file name asked u n = absurd (u.out e.failed)
+not_matched laws call status (by_err is e) file name asked u n = absurd (u.err e.failed)
+not_matched laws call status (no_memory is e) file name asked u n = inr is
+
 -- words that ask for nothing
 abbrev TellsUsage : Exit → Type 0
 TellsUsage status = Contains (Usage ∷ WriteFault ∷ Memory ∷ []) status
@@ -162,6 +185,7 @@ answers laws call status e = record {
   exact = λ task x verdict asked u h w v. exact_from laws.programs.one_program call.files.content task x status verdict w v (answered laws call status e task x asked u h w);
   nothing = nothing laws call status e;
   not_run = not_run laws call status e;
+  not_matched = not_matched laws call status e;
   refused = without laws call status e;
   taken = λ for canonical. taken laws call status e for (laws.canonical call.words for canonical);
 }

@@ -13,7 +13,8 @@ use Rattle.document_types.specs.DocumentTypes.{strict_type, mini_type, file_type
 use Rattle.phpsa_texts.specs.declared.exit.Exit.TheVariants.{Done, No, Undecided, Input, Usage, Site}
 use Rattle.phpsa_texts.specs.declared.answers.AnswerForm.TheVariants.{Plain, Json}
 use Rattle.phpsa_texts.specs.Texts.{help_text, version_text, usage_text}
-use Rattle.phpsa_tasks.specs.Tasks.{script_file, root_of, script_check, page_check, script_making, made_check, script_run, grammar_making, list_check, help_telling, version_telling, usage, task_of}
+use Rattle.phpsa_tasks.specs.Tasks.{script_file, root_of, script_check, page_check, script_making, made_check, script_run, grammar_making, list_check, script_match, help_telling, version_telling, usage, task_of}
+use Rattle.phpsa_tasks.specs.declared.choice.PageChoice.TheVariants.{First, Shortest}
 use Rattle.phpsa_tasks.specs.Call.{output_of, Gains, GainsPrefix, GainsNothing, Fails}
 use Rattle.phpsa_tasks.specs.Subjects.{PageBy}
 use Rattle.phpsa_tasks.specs.Replies.{IsReplyOf}
@@ -22,16 +23,16 @@ use Rattle.phpsa_tasks.specs.Counted.{ReadsFor}
 use Rattle.phpsa_tasks.specs.Answered.{IsVerdict}
 
 -- a script is decided by the strict type, the smallest one, or that of a file, which may have any name
-checks : task_of (check (codes "t.php") (codes "strict") None None 10000 false false) ≡ script_check (script_file (codes "t.php") None None) strict_type Valid 10000 Plain
+checks : task_of (check (codes "t.php") (codes "strict") None None 10000 false false false) ≡ script_check (script_file (codes "t.php") None None) strict_type Valid 10000 Plain First
 checks = refl
 
 -- in its normal form, with the root that is given, or that of its own name
-checks_by_a_file : task_of (check (codes "t.php") (codes "./d.dtd") None None 9 false true) ≡ script_check (script_file (codes "t.php") None None) (file_type (codes "d.dtd") (codes ".")) Valid 9 Json
+checks_by_a_file : task_of (check (codes "t.php") (codes "./d.dtd") None None 9 false true false) ≡ script_check (script_file (codes "t.php") None None) (file_type (codes "d.dtd") (codes ".")) Valid 9 Json First
 unfolding normal normal_parts root_for is_inside
 checks_by_a_file = refl
 
-checks_in_a_root : task_of (check (codes "t.php") (codes "d.dtd") (Some (codes "a/..//b")) None 9 false true)
-    ≡ script_check (script_file (codes "t.php") (Some (codes "a/..//b")) None) (file_type (codes "d.dtd") (codes "b")) Valid 9 Json
+checks_in_a_root : task_of (check (codes "t.php") (codes "d.dtd") (Some (codes "a/..//b")) None 9 false true true)
+    ≡ script_check (script_file (codes "t.php") (Some (codes "a/..//b")) None) (file_type (codes "d.dtd") (codes "b")) Valid 9 Json Shortest
 unfolding normal normal_parts root_for
 checks_in_a_root = refl
 
@@ -42,7 +43,7 @@ judges_by_no_name : task_of (page (codes "p.xhtml") [] None) ≡ page_check (cod
 unfolding normal normal_parts root_for is_inside
 judges_by_no_name = refl
 
-checks_nesting : task_of (check (codes "t.php") (codes "mini") None None 10000 true false) ≡ script_check (script_file (codes "t.php") None None) mini_type Nested 10000 Plain
+checks_nesting : task_of (check (codes "t.php") (codes "mini") None None 10000 true false false) ≡ script_check (script_file (codes "t.php") None None) mini_type Nested 10000 Plain First
 checks_nesting = refl
 
 checks_made : task_of (make 200 true) ≡ made_check 200

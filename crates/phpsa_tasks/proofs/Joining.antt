@@ -8,6 +8,7 @@ use Rattle.document_types.specs.DocumentTypes.{NamedType}
 use Rattle.script_decision.specs.Answers.{RunsAreGood}
 use Rattle.phpsa_texts.specs.declared.exit.Exit.TheVariants.{Done}
 use Rattle.phpsa_texts.specs.declared.answers.AnswerForm.{AnswerForm}
+use Rattle.phpsa_tasks.specs.declared.choice.PageChoice.{PageChoice}
 use Rattle.phpsa_tasks.specs.Tasks.{ScriptFile, script_check, script_run, AsksFor}
 use Rattle.phpsa_tasks.specs.Call.{Call, Gains}
 use Rattle.phpsa_tasks.specs.Subjects.{ProgramBy, ProgramFor, Holds}
@@ -33,11 +34,11 @@ admitted one call file request steps x (by_out is e) asked h = absurd cc
 admitted one call file request steps x (by_err is e) asked h = absurd cc
 admitted one call file request steps x (no_memory is e) asked h = absurd cc
 
-good : OneTask → (checked ran : Call) (file other : ScriptFile) (d : NamedType) (goal : Goal) (limit : ℕ) (form : AnswerForm) (request : Option (List ℕ)) (steps : ℕ)
-    (x : ProgramBy) (y : ProgramFor) → x.program ≡ y.program → IsChecked checked file d goal limit form x → HasRun ran other request steps y
+good : OneTask → (checked ran : Call) (file other : ScriptFile) (d : NamedType) (goal : Goal) (limit : ℕ) (form : AnswerForm) (choice : PageChoice) (request : Option (List ℕ)) (steps : ℕ)
+    (x : ProgramBy) (y : ProgramFor) → x.program ≡ y.program → IsChecked checked file d goal limit form choice x → HasRun ran other request steps y
     → IsGood goal x.table (outcome_for y steps).printed
-good one checked ran file other d goal limit form request steps x y same c r =
-    let runs : RunsAreGood goal x.table x.program = c.keeps.sound refl (script_check file d goal limit form) x c.asked c.held in
+good one checked ran file other d goal limit form choice request steps x y same c r =
+    let runs : RunsAreGood goal x.table x.program = c.keeps.sound refl (script_check file d goal limit form choice) x c.asked c.held in
     let own : RunsAreGood goal x.table y.program = subst (λ (p : PlainProgram). RunsAreGood goal x.table p) same runs in
     own y.request steps (admitted one ran other request steps y r.keeps.ends r.asked r.held) (r.keeps.sound refl (script_run other request steps) y r.asked r.held)
 
@@ -48,7 +49,7 @@ run_gains call file request steps y (writes_reply text (ended, is, text_is) out 
 run_gains call file request steps y (writes_halt printed text is out err) = absurd (halted_done (script_run file request steps) y printed text is)
 
 pub joined : OneTask → CheckedRunsPrintGoodPages
-joined one = λ checked ran file other d goal limit form request steps x y same c r. record {
+joined one = λ checked ran file other d goal limit form choice request steps x y same c r. record {
   gains = run_gains ran other request steps y (r.keeps.written tt (script_run other request steps) y r.asked r.held);
-  good = good one checked ran file other d goal limit form request steps x y same c r;
+  good = good one checked ran file other d goal limit form choice request steps x y same c r;
 }

@@ -10,6 +10,7 @@ pub mod Verdicts
 pub mod Never
 pub mod Nothing
 pub mod NotRun
+pub mod NotMatched
 pub mod Answers
 pub mod Soundness
 pub mod Writing

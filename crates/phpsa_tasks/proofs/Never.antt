@@ -10,6 +10,10 @@ use Rattle.program_files.specs.declared.refusal.LoadRefusal.{LoadRefusal}
 use Rattle.program_files.specs.declared.refusal.LoadRefusal.TheVariants as load
 use Rattle.request_reading.specs.declared.refusal.RequestRefusal.{RequestRefusal}
 use Rattle.request_reading.specs.declared.refusal.RequestRefusal.TheVariants as asking
+use Rattle.page_policy.specs.declared.refusal.PolicyRefusal.{PolicyRefusal}
+use Rattle.page_policy.specs.declared.refusal.PolicyRefusal.TheVariants as policy
+use Rattle.policy_decision.specs.declared.answer.PolicyAnswer.{PolicyAnswer}
+use Rattle.policy_decision.specs.declared.answer.PolicyAnswer.TheVariants as matched
 use Rattle.site_check.specs.declared.list_refusal.ListRefusal.{ListRefusal}
 use Rattle.site_check.specs.declared.list_refusal.ListRefusal.TheVariants as listing
 use Rattle.dtd_reader.specs.declared.refusal.DtdRefusal.{DtdRefusal}
@@ -18,19 +22,23 @@ use Rattle.document_types.specs.DocumentTypes.{NamedType, strict_type}
 use Rattle.document_types.specs.declared.refusal.DefinitionRefusal.{DefinitionRefusal}
 use Rattle.document_types.specs.declared.refusal.DefinitionRefusal.TheVariants as definition
 use Rattle.script_decision.specs.declared.shown.ShownAnswer.{ShownAnswer}
-use Rattle.command_words.specs.Asked.{Asked, help, version, check, run, page, grammar, make, site}
+use Rattle.shortest_decision.specs.declared.answer.ShortestAnswer.{ShortestAnswer}
+use Rattle.command_words.specs.Asked.{Asked, help, version, check, run, page, grammar, make, site, match_pattern}
 use Rattle.phpsa_texts.specs.declared.exit.Exit.{Exit}
 use Rattle.phpsa_texts.specs.declared.exit.Exit.TheVariants.{Done, Usage}
 use Rattle.phpsa_texts.specs.declared.exit.Exit.TheVariants as exit
-use Rattle.phpsa_texts.specs.Statuses.{judgment_status, fault_status, load_status, file_status, request_status, dtd_status, built_in_status, definition_status, list_status}
-use Rattle.phpsa_tasks.specs.Tasks.{ScriptFile, Task, script_check, page_check, script_making, made_check, script_run, grammar_making, list_check, help_telling, version_telling, usage, task_of}
+use Rattle.phpsa_texts.specs.Statuses.{judgment_status, fault_status, load_status, file_status, request_status, policy_status, dtd_status, built_in_status, definition_status, list_status}
+use Rattle.phpsa_tasks.specs.Tasks.{ScriptFile, Task, script_check, page_check, script_making, made_check, script_run, grammar_making, list_check, script_match, help_telling, version_telling, usage, task_of}
+use Rattle.phpsa_tasks.specs.Policies.{pattern_unread, no_pattern_in, RefusesPattern}
+use Rattle.phpsa_tasks.specs.PolicyAnswers.{match_status}
 use Rattle.phpsa_tasks.specs.Requests.{unread, no_request_in, RefusesRequest}
 use Rattle.phpsa_tasks.specs.Subjects.{Subject, made_file, only_made}
-use Rattle.phpsa_tasks.specs.ScriptAnswers.{answer_status}
+use Rattle.phpsa_tasks.specs.declared.choice.PageChoice.{PageChoice}
+use Rattle.phpsa_tasks.specs.ScriptAnswers.{answer_status, shortest_status}
 use Rattle.phpsa_tasks.specs.Replies.{end_status, IsReplyOf, IsHaltOf}
 use Rattle.phpsa_tasks.specs.Written.{HasAllWritten}
 use Rattle.phpsa_tasks.specs.Counted.{from_misses}
-use Rattle.phpsa_tasks.specs.Causes.{RefusesDefinition, not_defined, large_models, RefusesScript, not_loaded, lacks_definition, has_long_text, RefusesPage, not_read, page_lacks_definition, RefusesMade, no_size, made_refused, RefusesList, list_unread, no_list, list_lacks_definition, Refuses}
+use Rattle.phpsa_tasks.specs.Causes.{RefusesDefinition, not_defined, large_models, RefusesScript, not_loaded, lacks_definition, has_long_text, RefusesPage, not_read, page_lacks_definition, RefusesMade, no_size, made_refused, RefusesList, list_unread, no_list, list_lacks_definition, RefusesLongText, Refuses}
 use Rattle.phpsa_tasks.proofs.ListLemmas.{no_usage}
 
 -- neither a status of a reply or of a run, nor that of the usage
@@ -114,6 +122,19 @@ of_request files None status text why = absurd why
 of_request files (Some name) status text (unread fault why is text_is) = subst IsOther (sym is) (of_file fault)
 of_request files (Some name) status text (no_request_in bytes refusal told why is text_is) = subst IsOther (sym is) (of_asking refusal)
 
+of_policy : (refusal : PolicyRefusal) → IsOther (policy_status refusal)
+of_policy (policy.NotPattern at) = tt
+of_policy (policy.TooLong len) = tt
+of_policy (policy.TooDeep at) = tt
+of_policy policy.Memory = tt
+
+of_pattern : (files : SourceCall) (name : List ℕ) (status : Exit) (text : List ℕ) → RefusesPattern files name status text → IsOther status
+of_pattern files name status text (pattern_unread fault why is text_is) = subst IsOther (sym is) (of_file fault)
+of_pattern files name status text (no_pattern_in bytes refusal told why is text_is) = subst IsOther (sym is) (of_policy refusal)
+
+of_long : (files : SourceCall) (file : ScriptFile) (status : Exit) (text : List ℕ) → RefusesLongText files file status text → IsOther status
+of_long files file status text (program, found, long, is, text_is) = subst IsOther (sym is) tt
+
 of_no_list : (refusal : ListRefusal) → IsOther (list_status refusal)
 of_no_list (listing.NotUtf8 line) = tt
 of_no_list (listing.Names count) = tt
@@ -138,7 +159,7 @@ not_usage : (status : Exit) → IsOther status → status ≡ Usage → ⊥
 not_usage status is e = subst IsOther e is
 
 pub never_done : (files : SourceCall) (task : Task) (status : Exit) (text : List ℕ) → Refuses files task status text → HasAllWritten status → ⊥
-never_done files (script_check file d goal limit form) status text why e = not_done status (of_script files file d status text why) e
+never_done files (script_check file d goal limit form choice) status text why e = not_done status (of_script files file d status text why) e
 never_done files (page_check file d) status text why e = not_done status (of_page files file d status text why) e
 never_done files (script_making n) status text (size, is, text_is) e = subst HasAllWritten is e
 never_done files (made_check n) status text why e = not_done status (of_made n status text why) e
@@ -147,12 +168,15 @@ never_done files (script_run file request steps) status text (inr (program, foun
 never_done files (grammar_making file) status text (inl (cause, why, is, text_is)) e = not_done status (subst IsOther (sym is) (of_load cause)) e
 never_done files (grammar_making file) status text (inr (program, found, long, is, text_is)) e = subst HasAllWritten is e
 never_done files (list_check file d goal limit) status text why e = not_done status (of_list files file.name d status text why) e
+never_done files (script_match file name) status text (inl (cause, why, is, text_is)) e = not_done status (subst IsOther (sym is) (of_load cause)) e
+never_done files (script_match file name) status text (inr (inl (program, found, (misses, behind, why), read))) e = not_done status (of_pattern (from_misses misses files) name status text why) e
+never_done files (script_match file name) status text (inr (inr l)) e = not_done status (of_long files file status text l.refuses) e
 never_done files help_telling status text why e = why
 never_done files version_telling status text why e = why
 never_done files usage status text (is, text_is) e = subst HasAllWritten is e
 
 pub told_usage : (files : SourceCall) (task : Task) (status : Exit) (text : List ℕ) → Refuses files task status text → status ≡ Usage → task ≡ usage
-told_usage files (script_check file d goal limit form) status text why e = absurd (not_usage status (of_script files file d status text why) e)
+told_usage files (script_check file d goal limit form choice) status text why e = absurd (not_usage status (of_script files file d status text why) e)
 told_usage files (page_check file d) status text why e = absurd (not_usage status (of_page files file d status text why) e)
 told_usage files (script_making n) status text (size, is, text_is) e = let same : exit.Input ≡ Usage = sym is ∙ e in absurd cc
 told_usage files (made_check n) status text why e = absurd (not_usage status (of_made n status text why) e)
@@ -161,6 +185,9 @@ told_usage files (script_run file request steps) status text (inr (program, foun
 told_usage files (grammar_making file) status text (inl (cause, why, is, text_is)) e = absurd (not_usage status (subst IsOther (sym is) (of_load cause)) e)
 told_usage files (grammar_making file) status text (inr (program, found, long, is, text_is)) e = let same : exit.Input ≡ Usage = sym is ∙ e in absurd cc
 told_usage files (list_check file d goal limit) status text why e = absurd (not_usage status (of_list files file.name d status text why) e)
+told_usage files (script_match file name) status text (inl (cause, why, is, text_is)) e = absurd (not_usage status (subst IsOther (sym is) (of_load cause)) e)
+told_usage files (script_match file name) status text (inr (inl (program, found, (misses, behind, why), read))) e = absurd (not_usage status (of_pattern (from_misses misses files) name status text why) e)
+told_usage files (script_match file name) status text (inr (inr l)) e = absurd (not_usage status (of_long files file status text l.refuses) e)
 told_usage files help_telling status text why e = absurd why
 told_usage files version_telling status text why e = absurd why
 told_usage files usage status text why e = refl
@@ -172,12 +199,26 @@ no_answer (ShownAnswer.Pairs count height) e = cc
 no_answer (ShownAnswer.Tags count height) e = cc
 no_answer (ShownAnswer.Items count) e = cc
 
+no_shortest : (answer : ShortestAnswer) → shortest_status answer ≡ Usage → ⊥
+no_shortest ShortestAnswer.Yes e = cc
+no_shortest (ShortestAnswer.No shown) e = cc
+no_shortest (ShortestAnswer.Pairs count len) e = cc
+no_shortest (ShortestAnswer.Tags count len) e = cc
+no_shortest (ShortestAnswer.Items count) e = cc
+
+no_match : (answer : PolicyAnswer) → match_status answer ≡ Usage → ⊥
+no_match matched.Yes e = cc
+no_match (matched.No shown) e = cc
+no_match (matched.Items count) e = cc
+no_match (matched.States count) e = cc
+
 no_judgment : (valid : _) → judgment_status valid ≡ Usage → ⊥
 no_judgment true e = cc
 no_judgment false e = cc
 
 pub no_reply : (files : SourceCall) (task : Task) (x : Subject task) (status : Exit) (text : List ℕ) → IsReplyOf files task x status text → status ≡ Usage → ⊥
-no_reply files (script_check file d goal limit form) x status text (answer, says, is, text_is) e = no_answer answer (sym is ∙ e)
+no_reply files (script_check file d goal limit form PageChoice.First) x status text (answer, says, is, text_is) e = no_answer answer (sym is ∙ e)
+no_reply files (script_check file d goal limit form PageChoice.Shortest) x status text (answer, says, is, text_is) e = no_shortest answer (sym is ∙ e)
 no_reply files (page_check file d) x status text (valid, says, is, text_is) e = no_judgment valid (sym is ∙ e)
 no_reply files (script_making n) x status text (size, is, text_is) e = let same : Done ≡ Usage = sym is ∙ e in cc
 no_reply files (made_check n) x status text (answer, says, is, text_is) e = no_answer answer (sym is ∙ e)
@@ -185,6 +226,7 @@ no_reply files (script_run file request steps) x status text (ended, is, text_is
 no_reply files (grammar_making file) x status text (inl (written, is)) e = let same : Done ≡ Usage = sym is ∙ e in cc
 no_reply files (grammar_making file) x status text (inr (count, many, is, text_is)) e = let same : exit.Undecided ≡ Usage = sym is ∙ e in cc
 no_reply files (list_check file d goal limit) x status text (lines, are, is, text_is) e = no_usage lines (sym is ∙ e)
+no_reply files (script_match file name) x status text (answer, says, is, text_is) e = no_match answer (sym is ∙ e)
 no_reply files help_telling x status text (is, text_is) e = let same : Done ≡ Usage = sym is ∙ e in cc
 no_reply files version_telling x status text (is, text_is) e = let same : Done ≡ Usage = sym is ∙ e in cc
 no_reply files usage x status text r e = r
@@ -208,25 +250,27 @@ no_end runs.Spent e = cc
 no_end runs.Deep e = cc
 
 pub no_halt : (task : Task) (x : Subject task) (status : Exit) (printed text : List ℕ) → IsHaltOf task x status printed text → status ≡ Usage → ⊥
-no_halt (script_check file d goal limit form) x status printed text r e = r
+no_halt (script_check file d goal limit form choice) x status printed text r e = r
 no_halt (page_check file d) x status printed text r e = r
 no_halt (script_making n) x status printed text r e = r
 no_halt (made_check n) x status printed text r e = r
 no_halt (script_run file request steps) x status printed text (early, is, printed_is, text_is) e = no_end _ (sym is ∙ e)
 no_halt (grammar_making file) x status printed text r e = r
 no_halt (list_check file d goal limit) x status printed text r e = r
+no_halt (script_match file name) x status printed text r e = r
 no_halt help_telling x status printed text r e = r
 no_halt version_telling x status printed text r e = r
 no_halt usage x status printed text r e = r
 
 -- what words ask for is more than the usage
 pub asks_more : (for : Asked) → usage ≡ task_of for → ⊥
-asks_more (check file definition root stubs limit by_nesting as_json) e = cc
+asks_more (check file definition root stubs limit by_nesting as_json is_shortest) e = cc
 asks_more (run file root stubs request steps) e = cc
 asks_more (page file definition root) e = cc
 asks_more (grammar file root stubs) e = cc
 asks_more (make functions true) e = cc
 asks_more (make functions false) e = cc
 asks_more (site file definition root stubs limit by_nesting) e = cc
+asks_more (match_pattern file name root stubs) e = cc
 asks_more help e = cc
 asks_more version e = cc

@@ -20,6 +20,7 @@ use Rattle.script_decision.specs.declared.shown.ShownAnswer.{ShownAnswer}
 use Rattle.phpsa_texts.specs.declared.exit.Exit.TheVariants.{Done}
 use Rattle.phpsa_texts.specs.declared.answers.AnswerForm.TheVariants.{Plain}
 use Rattle.phpsa_texts.specs.Texts.{yes_text}
+use Rattle.phpsa_tasks.specs.declared.choice.PageChoice.TheVariants.{First}
 use Rattle.phpsa_tasks.specs.Tasks.{script_file, Task, script_check, page_check, AsksFor}
 use Rattle.phpsa_tasks.specs.Call.{Call, output_of, call_of, Gains}
 use Rattle.phpsa_tasks.specs.Requests.{no_request}
@@ -37,7 +38,7 @@ runs request = refl
 
 -- what the source holds, as a task speaks of it; that it holds the program, in files within their limit, stands in program_loader (SmallProgram)
 abbrev task : Task
-task = script_check (script_file (codes "t.php") None None) mini_type Goal.Valid 10000 Plain
+task = script_check (script_file (codes "t.php") None None) mini_type Goal.Valid 10000 Plain First
 
 abbrev subject : ProgramBy
 subject = record { program = program; table = mini_table }

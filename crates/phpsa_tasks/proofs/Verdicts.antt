@@ -2,17 +2,18 @@
 use Rattle.std.proofs.Common.{◌≡◌, ◌∙◌, ℕ, List, refl, sym, subst}
 use Rattle.io_edge.specs.Told.{Content}
 use Rattle.dtd_model.specs.Table.{Table}
+use Rattle.page_policy.specs.Patterns.{Pattern}
 use Rattle.script_meaning.specs.Programs.{PlainProgram}
 use Rattle.document_types.specs.DocumentTypes.{NamedType}
 use Rattle.page_decision.specs.declared.goal.Goal.{Goal}
 use Rattle.phpsa_texts.specs.declared.exit.Exit.{Exit}
 use Rattle.phpsa_texts.specs.declared.exit.Exit.TheVariants.{Done, No, Usage, Input}
-use Rattle.phpsa_tasks.specs.Tasks.{ScriptFile, Task, script_check, page_check, script_making, made_check, script_run, grammar_making, list_check, help_telling, version_telling, usage}
+use Rattle.phpsa_tasks.specs.Tasks.{ScriptFile, Task, script_check, page_check, script_making, made_check, script_run, grammar_making, list_check, script_match, help_telling, version_telling, usage}
 use Rattle.program_loader.specs.Told.{IsLoaded}
 use Rattle.script_decision.specs.Answers.{EachIsGood}
 use Rattle.site_check.specs.Listed.{names_in}
 use Rattle.phpsa_tasks.specs.Subjects.{PageBy, Subject, HoldScripts, IsWithin}
-use Rattle.phpsa_tasks.specs.Answered.{IsScriptVerdict, IsOfList, IsListVerdict, IsVerdict}
+use Rattle.phpsa_tasks.specs.Answered.{IsScriptVerdict, IsMatchVerdict, IsOfList, IsListVerdict, IsVerdict}
 use Rattle.phpsa_tasks.proofs.Held.{OneProgram}
 
 -- a program whose loose pages are good has none that is not
@@ -47,6 +48,16 @@ grammar_once : (content : Content) (file : ScriptFile) (p : PlainProgram) (s t :
 grammar_once content file p Done Done a b = refl
 grammar_once content file p Done _ a b = absurd b
 grammar_once content file p _ t a b = absurd a
+
+-- a program whose loose pages fit has none that does not
+match_once : (p : Pattern) (program : PlainProgram) (s t : Exit) → IsMatchVerdict p program s → IsMatchVerdict p program t → s ≡ t
+match_once p program Done Done a b = refl
+match_once p program Done No each (page, loose, misses) = absurd (misses (each page loose))
+match_once p program Done _ a b = absurd b
+match_once p program No No a b = refl
+match_once p program No Done (page, loose, misses) each = absurd (misses (each page loose))
+match_once p program No _ a b = absurd b
+match_once p program _ t a b = absurd a
 
 usage_once : (content : Content) (s t : Exit) → IsVerdict content usage tt s → IsVerdict content usage tt t → s ≡ t
 usage_once content Usage Usage a b = refl
@@ -84,13 +95,14 @@ list_once one content file goal table list Input _ hold a b = absurd b
 list_once one content file goal table list _ t hold a b = absurd a
 
 pub one_verdict : OneProgram → (content : Content) (task : Task) (x : Subject task) (s t : Exit) → IsWithin content task x → IsVerdict content task x s → IsVerdict content task x t → s ≡ t
-one_verdict one content (script_check file d goal limit form) x s t w a b = script_once goal x.table x.program s t a b
+one_verdict one content (script_check file d goal limit form choice) x s t w a b = script_once goal x.table x.program s t a b
 one_verdict one content (page_check file d) x s t w a b = page_once content file d x s t a b
 one_verdict one content (script_making n) x s t w a b = making_once content n s t a b
 one_verdict one content (made_check n) x s t w a b = script_once Goal.Valid x.table x.program s t a b
 one_verdict one content (script_run file request steps) x s t w a b = a ∙ sym b
 one_verdict one content (grammar_making file) x s t w a b = grammar_once content file x s t a b
 one_verdict one content (list_check file d goal limit) x s t w a b = list_once one content file goal x.table x.list s t w.1 a b
+one_verdict one content (script_match file policy) x s t w a b = match_once x.pattern x.program s t a b
 one_verdict one content help_telling x s t w a b = a ∙ sym b
 one_verdict one content version_telling x s t w a b = a ∙ sym b
 one_verdict one content usage x s t w a b = usage_once content s t a b

@@ -8,6 +8,7 @@ use Rattle.program_files.specs.Source.{SourceCall, source_call}
 use Rattle.program_files.specs.declared.refusal.LoadRefusal.{LoadRefusal}
 use Rattle.program_loader.specs.Causes.{IsLoadCause}
 use Rattle.dtd_model.specs.Table.{Table}
+use Rattle.page_policy.specs.Patterns.{Pattern}
 use Rattle.dtd_reader.specs.Source as definition
 use Rattle.document_types.specs.DocumentTypes.{NamedType, strict_type, HasTable, IsDefinitionRefusal}
 use Rattle.document_types.specs.declared.refusal.DefinitionRefusal.{DefinitionRefusal}
@@ -20,9 +21,10 @@ use Rattle.phpsa_texts.specs.declared.exit.Exit.{Exit}
 use Rattle.phpsa_texts.specs.declared.exit.Exit.TheVariants.{Usage, Dtd, Input}
 use Rattle.phpsa_texts.specs.Statuses.{load_status, file_status, definition_status, list_status}
 use Rattle.phpsa_texts.specs.Texts.{load_text, file_text, definition_text, states_text, long_text, size_text, list_text, usage_text}
-use Rattle.phpsa_tasks.specs.Tasks.{ScriptFile, root_of, Task, script_check, page_check, script_making, made_check, script_run, grammar_making, list_check, help_telling, version_telling, usage}
+use Rattle.phpsa_tasks.specs.Tasks.{ScriptFile, root_of, Task, script_check, page_check, script_making, made_check, script_run, grammar_making, list_check, script_match, help_telling, version_telling, usage}
 use Rattle.phpsa_tasks.specs.Subjects.{made_file, only_made, IsLoadedInside}
 use Rattle.phpsa_tasks.specs.Requests.{RefusesRequest}
+use Rattle.phpsa_tasks.specs.Policies.{FindsPattern, RefusesPattern}
 use Rattle.phpsa_tasks.specs.Counted.{MissesItsNames, from_misses, ReadsForRun}
 
 -- a source of files as the reader of definitions sees it
@@ -73,6 +75,14 @@ LacksRequest files file request status text =
     × ((misses : ℕ) × MissesItsNames files file.name misses × RefusesRequest (from_misses misses files) request status text)
     × ReadsForRun files file request
 
+-- the program is loaded, and there is no pattern for it; each name that the program asks for was asked for once, with that of its stubs,
+-- and then that of the pattern, behind the misses of the program
+abbrev pub LacksPattern : SourceCall → ScriptFile → List ℕ → Exit → List ℕ → Type 0
+LacksPattern files file policy status text =
+    (program : PlainProgram) × IsLoadedInside files.content file program
+    × ((misses : ℕ) × MissesItsNames files file.name misses × RefusesPattern (from_misses misses files) policy status text)
+    × ReadsForRun files file (Some policy)
+
 -- a text in the program of a file is over the limit of a run
 abbrev pub RefusesLongText : SourceCall → ScriptFile → Exit → List ℕ → Type 0
 RefusesLongText files file status text =
@@ -88,10 +98,16 @@ pub data RefusesList (files : SourceCall) (name : List ℕ) (document_type : Nam
       → IsDefinitionRefusal (definition_call files) document_type cause → status ≡ definition_status cause → text ≡ definition_text cause
       → RefusesList files name document_type status text
 
+-- a pattern is found, and behind it a text in the program is over the limit of a run
+pub record HasLongTextBehind (files : SourceCall) (file : ScriptFile) (policy : List ℕ) (status : Exit) (text : List ℕ) : Type 0 where
+  pub pattern : Pattern
+  pub finds : FindsPattern files.content policy pattern
+  pub refuses : RefusesLongText files file status text
+
 -- why each task is refused; want of memory may come at any place beside. Of what stands in the line that says what is wrong with words
 -- nothing is said here.
 abbrev pub Refuses : SourceCall → Task → Exit → List ℕ → Type 0
-Refuses files (script_check file document_type goal limit form) status text = RefusesScript files file document_type status text
+Refuses files (script_check file document_type goal limit form choice) status text = RefusesScript files file document_type status text
 Refuses files (page_check file document_type) status text = RefusesPage files file document_type status text
 Refuses files (script_making functions) status text = (IsSize functions → ⊥) × (status ≡ Input) × (text ≡ size_text functions)
 Refuses files (made_check functions) status text = RefusesMade functions status text
@@ -99,6 +115,8 @@ Refuses files (script_run file request steps) status text =
     RefusesProgram files file status text ⊎ LacksRequest files file request status text
 Refuses files (grammar_making file) status text = RefusesProgram files file status text ⊎ RefusesLongText files file status text
 Refuses files (list_check file document_type goal limit) status text = RefusesList files file.name document_type status text
+Refuses files (script_match file policy) status text =
+    RefusesProgram files file status text ⊎ (LacksPattern files file policy status text ⊎ HasLongTextBehind files file policy status text)
 Refuses files help_telling status text = ⊥
 Refuses files version_telling status text = ⊥
 Refuses files usage status text = (status ≡ Usage) × ((reason : Option (List ℕ)) × (text ≡ usage_text reason))

@@ -11,7 +11,7 @@ use Rattle.program_loader.specs.Told.{AreAnswered}
 use Rattle.document_types.specs.DocumentTypes.{IsBuiltIn}
 use Rattle.phpsa_texts.specs.declared.exit.Exit.{Exit}
 use Rattle.phpsa_texts.specs.declared.exit.Exit.TheVariants.{No, Undecided, Script, Missing, ReadFault, WriteFault, Input, Memory, Site}
-use Rattle.phpsa_tasks.specs.Tasks.{ScriptFile, Task, script_check, page_check, script_making, made_check, script_run, grammar_making, list_check, help_telling, version_telling, usage, AsksFor}
+use Rattle.phpsa_tasks.specs.Tasks.{ScriptFile, Task, script_check, page_check, script_making, made_check, script_run, grammar_making, list_check, script_match, help_telling, version_telling, usage, AsksFor}
 use Rattle.phpsa_tasks.specs.Call.{Output, Call, IsUnfailed}
 
 -- what the program of the file of a name asks for, each of which was answered: these are its files, and these the names that are not there
@@ -38,7 +38,7 @@ pub record MissesItsNames (files : SourceCall) (name : List ℕ) (misses : ℕ) 
 abbrev pub from_misses : ℕ → SourceCall → SourceCall
 from_misses misses files = record files { misses = misses }
 
--- and for a run that of the file of its request, if there is one, behind them
+-- and behind them the file of a request, if there is one, or that of a pattern
 abbrev pub ReadsForRun : SourceCall → ScriptFile → Option (List ℕ) → Type 0
 ReadsForRun files file None = ReadsItsFiles files file
 ReadsForRun files file (Some name) =
@@ -58,10 +58,10 @@ abbrev pub uncounted : List Exit
 uncounted = Script ∷ Missing ∷ ReadFault ∷ Input ∷ WriteFault ∷ Memory ∷ []
 
 -- By a built-in definition, or where none is asked for, each name that a task needs is asked for once, but for the statuses above: those
--- of a program, with those of its stubs and of a request; or the page, unless memory was wanting before. The other tasks read nothing; of a list, whose
+-- of a program, with those of its stubs and of a request or a pattern; or the page, unless memory was wanting before. The other tasks read nothing; of a list, whose
 -- scripts may share files, nothing is said here.
 abbrev pub ReadsFor : Task → SourceCall → Exit → Type 0
-ReadsFor (script_check file document_type goal limit form) files status =
+ReadsFor (script_check file document_type goal limit form choice) files status =
     IsBuiltIn document_type → Contains uncounted status ⊎ ReadsItsFiles files file
 ReadsFor (page_check file document_type) files status =
     IsBuiltIn document_type → (files.reads' ≡ one_more files.reads) ⊎ (ReadsNothing files × IsWanting status)
@@ -70,6 +70,7 @@ ReadsFor (made_check functions) files status = ReadsNothing files
 ReadsFor (script_run file request steps) files status = Contains uncounted status ⊎ ReadsForRun files file request
 ReadsFor (grammar_making file) files status = Contains uncounted status ⊎ ReadsItsFiles files file
 ReadsFor (list_check file document_type goal limit) files status = ⊤
+ReadsFor (script_match file policy) files status = Contains uncounted status ⊎ ReadsForRun files file (Some policy)
 ReadsFor help_telling files status = ReadsNothing files
 ReadsFor version_telling files status = ReadsNothing files
 ReadsFor usage files status = ReadsNothing files

@@ -5,6 +5,7 @@ use Rattle.page_decision.specs.Goals.{IsGood}
 use Rattle.document_types.specs.DocumentTypes.{NamedType}
 use Rattle.phpsa_texts.specs.declared.exit.Exit.TheVariants.{Done}
 use Rattle.phpsa_texts.specs.declared.answers.AnswerForm.{AnswerForm}
+use Rattle.phpsa_tasks.specs.declared.choice.PageChoice.{PageChoice}
 use Rattle.phpsa_tasks.specs.Tasks.{ScriptFile, script_check, script_run, AsksFor}
 use Rattle.phpsa_tasks.specs.Call.{Call, Gains}
 use Rattle.phpsa_tasks.specs.Subjects.{ProgramBy, ProgramFor, Holds}
@@ -13,10 +14,10 @@ use Rattle.phpsa_tasks.specs.Keeps.{Keeps}
 
 -- a call of `check` on a program that its source holds has ended with status 0
 pub record IsChecked (call : Call) (file : ScriptFile) (document_type : NamedType) (goal : Goal) (limit : ℕ) (form : AnswerForm)
-    (subject : ProgramBy) : Type 0 where
+    (choice : PageChoice) (subject : ProgramBy) : Type 0 where
   pub keeps : Keeps call Done
-  pub asked : AsksFor call.words (script_check file document_type goal limit form)
-  pub held : Holds call.files.content (script_check file document_type goal limit form) subject
+  pub asked : AsksFor call.words (script_check file document_type goal limit form choice)
+  pub held : Holds call.files.content (script_check file document_type goal limit form choice) subject
 
 -- and a call of `run` on a program, for a request that its source holds
 pub record HasRun (call : Call) (file : ScriptFile) (request : Option (List ℕ)) (steps : ℕ) (subject : ProgramFor) : Type 0 where
@@ -34,7 +35,7 @@ pub record PrintsGoodPage (call : Call) (goal : Goal) (of_check : ProgramBy) (of
 abbrev pub CheckedRunsPrintGoodPages : Type 0
 CheckedRunsPrintGoodPages =
     (checked ran : Call) (file other : ScriptFile) (document_type : NamedType) (goal : Goal) (limit : ℕ) (form : AnswerForm)
-    (request : Option (List ℕ)) (steps : ℕ)
+    (choice : PageChoice) (request : Option (List ℕ)) (steps : ℕ)
     (of_check : ProgramBy) (of_run : ProgramFor) → of_check.program ≡ of_run.program
-    → IsChecked checked file document_type goal limit form of_check → HasRun ran other request steps of_run
+    → IsChecked checked file document_type goal limit form choice of_check → HasRun ran other request steps of_run
     → PrintsGoodPage ran goal of_check of_run steps

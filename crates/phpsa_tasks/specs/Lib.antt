@@ -3,8 +3,10 @@ pub mod Views
 pub mod Call
 pub mod Files
 pub mod Requests
+pub mod Policies
 pub mod Subjects
 pub mod ScriptAnswers
+pub mod PolicyAnswers
 pub mod Causes
 pub mod Sites
 pub mod Replies

@@ -25,9 +25,11 @@ use Rattle.phpsa_texts.specs.declared.answers.PassedCount.TheVariants as passed
 use Rattle.phpsa_texts.specs.Statuses.{judgment_status, fault_status, site_status}
 use Rattle.phpsa_texts.specs.Texts.{passed_text, summary_text, judgment_text, fault_text, spent_text, deep_text, help_text, version_text}
 use Rattle.command_words.specs.declared.values.TheConstants.{PAIR_LIMIT}
-use Rattle.phpsa_tasks.specs.Tasks.{Task, script_check, page_check, script_making, made_check, script_run, grammar_making, list_check, help_telling, version_telling, usage}
+use Rattle.phpsa_tasks.specs.Tasks.{Task, script_check, page_check, script_making, made_check, script_run, grammar_making, list_check, script_match, help_telling, version_telling, usage}
 use Rattle.phpsa_tasks.specs.Subjects.{ProgramFor, Subject, Finds}
-use Rattle.phpsa_tasks.specs.ScriptAnswers.{conclusion_of, answer_status, answer_text, IsAnswer}
+use Rattle.phpsa_tasks.specs.ScriptAnswers.{conclusion_of, answer_status, IsAnswer, IsCheckReply}
+use Rattle.policy_decision.specs.declared.answer.PolicyAnswer.{PolicyAnswer}
+use Rattle.phpsa_tasks.specs.PolicyAnswers.{match_status, match_text, IsMatch}
 use Rattle.phpsa_tasks.specs.Sites.{AreLinesOf}
 
 -- whether a page is valid
@@ -76,9 +78,8 @@ IsGrammarReply program status text =
 -- what each task replies of what it speaks of: a run, where it came to its end; of a list, by what came of the source while its scripts were
 -- read; and nothing where nothing is asked for
 abbrev pub IsReplyOf : SourceCall → (task : Task) → Subject task → Exit → List ℕ → Type 0
-IsReplyOf files (script_check file document_type goal limit form) subject status text =
-    (answer : ShownAnswer) × IsAnswer goal subject.table subject.program limit answer × (status ≡ answer_status answer)
-    × (text ≡ answer_text form answer)
+IsReplyOf files (script_check file document_type goal limit form choice) subject status text =
+    IsCheckReply choice goal subject.table subject.program limit form status text
 IsReplyOf files (page_check file document_type) subject status text =
     (valid : Bool) × IsJudged subject.table subject.page valid × (status ≡ judgment_status valid) × (text ≡ judgment_text valid)
 IsReplyOf files (script_making functions) subject status text = IsSize functions × (status ≡ Done) × (text ≡ made functions)
@@ -91,6 +92,8 @@ IsReplyOf files (grammar_making file) subject status text = IsGrammarReply subje
 IsReplyOf files (list_check file document_type goal limit) subject status text =
     (lines : List Line) × AreLinesOf files file goal limit subject lines × (status ≡ site_status lines)
     × (text ≡ report (names_in subject.list) lines)
+IsReplyOf files (script_match file policy) subject status text =
+    (answer : PolicyAnswer) × IsMatch subject.pattern subject.program answer × (status ≡ match_status answer) × (text ≡ match_text answer)
 IsReplyOf files help_telling subject status text = (status ≡ Done) × (text ≡ help_text)
 IsReplyOf files version_telling subject status text = (status ≡ Done) × (text ≡ version_text)
 IsReplyOf files usage subject status text = ⊥

@@ -6,22 +6,24 @@ use Rattle.script_meaning.specs.Runs.{Ended}
 use Rattle.page_model.specs.Valid.{Valid}
 use Rattle.page_decision.specs.declared.goal.Goal.{Goal}
 use Rattle.script_decision.specs.Answers.{RunsAreGood}
+use Rattle.policy_decision.specs.Answers.{RunsFit}
 use Rattle.program_loader.specs.Told.{IsLoaded}
 use Rattle.script_maker.specs.Made.{IsSize}
 use Rattle.site_check.specs.Listed.{names_in}
 use Rattle.phpsa_texts.specs.declared.exit.Exit.{Exit}
 use Rattle.phpsa_texts.specs.declared.exit.Exit.TheVariants.{Done}
-use Rattle.phpsa_tasks.specs.Tasks.{Task, script_check, page_check, script_making, made_check, script_run, grammar_making, list_check, help_telling, version_telling, usage, AsksFor}
+use Rattle.phpsa_tasks.specs.Tasks.{Task, script_check, page_check, script_making, made_check, script_run, grammar_making, list_check, script_match, help_telling, version_telling, usage, AsksFor}
 use Rattle.phpsa_tasks.specs.Replies.{outcome_for}
 use Rattle.phpsa_tasks.specs.Subjects.{Subject, Holds}
 use Rattle.phpsa_tasks.specs.Call.{Call}
 
 -- of a program, that its runs print good pages, which are valid ones unless nesting is asked for; of a page, that it is valid; of a number
--- of functions, that a script may have so many; of a run, that it comes to its end; of a list, that each of its names has a program whose
+-- of functions, that a script may have so many; of a run, that it comes to its end; of a program and a pattern, that its runs print pages
+-- that fit; of a list, that each of its names has a program whose
 -- runs do; and never where nothing is done. Where stubs are given, the program is the one with their functions, and its runs are those in
 -- which these stand for the host's.
 abbrev pub Means : Content → (task : Task) → Subject task → Type 0
-Means content (script_check file document_type goal limit form) subject = RunsAreGood goal subject.table subject.program
+Means content (script_check file document_type goal limit form choice) subject = RunsAreGood goal subject.table subject.program
 Means content (page_check file document_type) subject = Valid subject.table subject.page
 Means content (script_making functions) subject = IsSize functions
 Means content (made_check functions) subject = RunsAreGood Goal.Valid subject.table subject.program
@@ -30,6 +32,7 @@ Means content (grammar_making file) subject = ⊤
 Means content (list_check file document_type goal limit) subject =
     (name : List ℕ) → Contains (names_in subject.list) name
     → (program : PlainProgram) × IsLoaded content name file.stubs program × RunsAreGood goal subject.table program
+Means content (script_match file policy) subject = RunsFit subject.pattern subject.program
 Means content help_telling subject = ⊤
 Means content version_telling subject = ⊤
 Means content usage subject = ⊥

@@ -5,11 +5,13 @@
 //! Used by: phpsa_main.
 #![tactic(auto)]
 
+mod choice;
 pub mod laws;
 mod reply;
 mod task;
 mod words;
 
+pub use choice::PageChoice;
 pub use reply::Reply;
 pub use task::{ScriptFile, Task};
 pub use words::asked_task;

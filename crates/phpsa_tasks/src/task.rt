@@ -5,6 +5,7 @@ ghost use Rattle.command_words.specs.Views.{asked_as};
 ghost use Rattle.phpsa_tasks.specs.Tasks as spec;
 ghost use Rattle.phpsa_tasks.specs.Views.{task_as};
 
+use crate::choice::PageChoice;
 use command_words::CommandLine;
 use document_types::DocumentType;
 use page_decision::Goal;
@@ -23,14 +24,16 @@ pub struct ScriptFile<'a> {
 /// What is to be done.
 #[derive(Debug, Drop)]
 pub enum Task<'a> {
-    /// The script of a file is decided, with all that it includes: by this goal, and with at most
-    /// so many different sums of the sentences of one nonterminal.
+    /// The script of a file is decided, with all that it includes: by this goal, with at most so
+    /// many different sums of the sentences of one nonterminal, and with this page where one is not
+    /// good.
     ScriptCheck {
         file: ScriptFile<'a>,
         document_type: DocumentType<'a>,
         goal: Goal,
         limit: u64,
         form: AnswerForm,
+        choice: PageChoice,
     },
     /// The page of a file is judged.
     PageCheck {
@@ -63,6 +66,11 @@ pub enum Task<'a> {
         document_type: DocumentType<'a>,
         goal: Goal,
         limit: u64,
+    },
+    /// The pages of the script of a file are held against the pattern of another.
+    ScriptMatch {
+        file: ScriptFile<'a>,
+        policy: &'a str,
     },
     /// The commands and their options are told.
     Help,
@@ -97,6 +105,17 @@ fn goal_of(by_nesting: bool) -> Goal
     }
 }
 
+/// Which page is shown, by whether a shortest one is asked for.
+fn choice_of(is_shortest: bool) -> PageChoice
+    ensures { result ≡ spec.choice_of is_shortest }
+{
+    if is_shortest {
+        PageChoice::Shortest
+    } else {
+        PageChoice::First
+    }
+}
+
 /// What is done for words that ask for this.
 pub(crate) fn task_of<'a>(line: CommandLine<'a>) -> Task<'a>
     ensures { task_as result ≡ spec.task_of (asked_as line.entry) }
@@ -110,6 +129,7 @@ pub(crate) fn task_of<'a>(line: CommandLine<'a>) -> Task<'a>
             limit,
             by_nesting,
             as_json,
+            is_shortest,
         } => Task::ScriptCheck {
             file: ScriptFile {
                 name: file,
@@ -120,6 +140,7 @@ pub(crate) fn task_of<'a>(line: CommandLine<'a>) -> Task<'a>
             goal: goal_of(by_nesting),
             limit: u64::from(limit),
             form: form_of(as_json),
+            choice: choice_of(is_shortest),
         },
         CommandLine::Run {
             file,
@@ -172,6 +193,19 @@ pub(crate) fn task_of<'a>(line: CommandLine<'a>) -> Task<'a>
             document_type: DocumentType::named(root, definition),
             goal: goal_of(by_nesting),
             limit: u64::from(limit),
+        },
+        CommandLine::Match {
+            file,
+            policy,
+            root,
+            stubs,
+        } => Task::ScriptMatch {
+            file: ScriptFile {
+                name: file,
+                root,
+                stubs,
+            },
+            policy,
         },
         CommandLine::Help => Task::Help,
         CommandLine::Version => Task::Version,

@@ -17,11 +17,12 @@ use Rattle.program_files.specs.declared.refusal.LoadRefusal.TheVariants as load
 use Rattle.dtd_reader.specs.declared.refusal.DtdRefusal.TheVariants as dtd
 use Rattle.document_types.specs.declared.refusal.DefinitionRefusal.TheVariants as definition
 use Rattle.request_reading.specs.declared.refusal.RequestRefusal.TheVariants as request
+use Rattle.page_policy.specs.declared.refusal.PolicyRefusal.TheVariants as policy
 use Rattle.plain_values.specs.declared.fault.Fault.TheVariants as fault
 use Rattle.call_options.specs.declared.refusal.OptionsFault.TheVariants as options
 use Rattle.call_options.specs.declared.refusal.OptionsRefusal.TheVariants as option
-use Rattle.phpsa_texts.specs.Statuses.{status_of, conclusion_status, judgment_status, load_status, definition_status, options_status}
-use Rattle.phpsa_texts.specs.Texts.{yes_answer, no_answer, passed_answer, summary_text, long_text, judgment_text, load_text, file_text, definition_text, states_text, request_text, fault_text, spent_text, deep_text, size_text, reason_text, usage_text, options_text, words_text, write_fault_text}
+use Rattle.phpsa_texts.specs.Statuses.{status_of, conclusion_status, judgment_status, load_status, definition_status, policy_status, options_status}
+use Rattle.phpsa_texts.specs.Texts.{yes_answer, no_answer, passed_answer, many_states_text, policy_text, summary_text, long_text, judgment_text, load_text, file_text, definition_text, states_text, request_text, fault_text, spent_text, deep_text, size_text, reason_text, usage_text, options_text, words_text, write_fault_text}
 
 a_yes : yes_answer Plain ≡ 121 ∷ 101 ∷ 115 ∷ 10 ∷ []
 a_yes = refl
@@ -36,6 +37,21 @@ a_json_yes = refl
 many_pairs : passed_answer Plain (passed.Pairs 3 2) ≡ codes "undecided pairs 3 height 2" ++ 10 ∷ []
 unfolding digits
 many_pairs = refl
+
+many_short_pairs : passed_answer Plain (passed.ShortPairs 3 21) ≡ codes "undecided pairs 3 length 21" ++ 10 ∷ []
+unfolding digits
+many_short_pairs = refl
+
+many_states_of_a_pattern : many_states_text 65537 ≡ codes "undecided states 65537" ++ 10 ∷ []
+unfolding digits
+many_states_of_a_pattern = refl
+
+no_pattern : policy_text (policy.NotPattern 2) ≡ codes "phpsa: Policy NotPattern 2" ++ 10 ∷ []
+unfolding digits
+no_pattern = refl
+
+its_pattern_status : status_of (policy_status (policy.TooLong 4097)) ≡ 14
+its_pattern_status = refl
 
 many_items : passed_answer Plain (passed.Items 8000001) ≡ codes "undecided items 8000001" ++ 10 ∷ []
 unfolding digits
@@ -144,7 +160,7 @@ a_status : status_of Usage ≡ 9
 a_status = refl
 
 the_usage : usage_text None
-    ≡ codes "phpsa: Usage\na number is one to eight decimal digits that are not all 0\nphpsa check FILE.. [--dtd D] [--limit N] [--nesting] [--json] [--root FOLDER] [--stubs FILE]\nphpsa run FILE [--request FILE] [--steps N] [--root FOLDER] [--stubs FILE]\nphpsa page FILE [--dtd D] [--root FOLDER]\nphpsa grammar FILE [--root FOLDER] [--stubs FILE]\nphpsa make N [--check]\nphpsa site FILE [--dtd D] [--limit N] [--nesting] [--root FOLDER] [--stubs FILE]\nphpsa --help\nphpsa --version\n"
+    ≡ codes "phpsa: Usage\na number is one to eight decimal digits that are not all 0; match wants --policy FILE\nphpsa check FILE.. [--dtd D] [--limit N] [--nesting] [--json] [--shortest] [--root FOLDER] [--stubs FILE]\nphpsa run FILE [--request FILE] [--steps N] [--root FOLDER] [--stubs FILE]\nphpsa page FILE [--dtd D] [--root FOLDER]\nphpsa grammar FILE [--root FOLDER] [--stubs FILE]\nphpsa make N [--check]\nphpsa match FILE --policy FILE [--root FOLDER] [--stubs FILE]\nphpsa site FILE [--dtd D] [--limit N] [--nesting] [--root FOLDER] [--stubs FILE]\nphpsa --help\nphpsa --version\n"
 the_usage = refl
 
 a_reason : reason_text (Some (codes "unexpected argument 'x'")) ≡ codes "unexpected argument 'x'" ++ 10 ∷ []

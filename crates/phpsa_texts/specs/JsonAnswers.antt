@@ -18,6 +18,12 @@ sums_json kind count height =
     codes "{\"answer\":\"undecided\",\"count\":"
     ++ (decimal count ++ (codes ",\"height\":" ++ (decimal height ++ (codes ",\"kind\":" ++ (quoted kind ++ codes "}"))))) ++ 10 ∷ []
 
+-- `{"answer":"undecided","count":COUNT,"kind":"KIND","length":LENGTH}`: the same, of sentences of at most so many bytes
+abbrev pub short_sums_json : List ℕ → ℕ → ℕ → List ℕ
+short_sums_json kind count len =
+    codes "{\"answer\":\"undecided\",\"count\":"
+    ++ (decimal count ++ (codes ",\"kind\":" ++ (quoted kind ++ (codes ",\"length\":" ++ (decimal len ++ codes "}"))))) ++ 10 ∷ []
+
 -- `{"answer":"undecided","count":COUNT,"kind":"items"}`: a count of items
 abbrev pub items_json : ℕ → List ℕ
 items_json count = codes "{\"answer\":\"undecided\",\"count\":" ++ (decimal count

@@ -2,7 +2,7 @@
 use Rattle.std.specs.Prelude.{ℕ, Bool, true, false, List, if◌then◌else◌}
 use Rattle.std.specs.List.{list_any}
 use Rattle.phpsa_texts.specs.declared.exit.Exit.{Exit}
-use Rattle.phpsa_texts.specs.declared.exit.Exit.TheVariants.{Done, No, Undecided, Script, Spent, Missing, ReadFault, WriteFault, Usage, Dtd, Input, Memory, Deep, Site, Words}
+use Rattle.phpsa_texts.specs.declared.exit.Exit.TheVariants.{Done, No, Undecided, Script, Spent, Missing, ReadFault, WriteFault, Usage, Dtd, Input, Memory, Deep, Policy, Site, Words}
 use Rattle.phpsa_texts.specs.declared.exit.Exit.TheVariants as exit
 use Rattle.plain_values.specs.declared.fault.Fault.{Fault}
 use Rattle.plain_values.specs.declared.fault.Fault.TheVariants as fault
@@ -19,6 +19,8 @@ use Rattle.io_edge.specs.declared.files.FileFault.{FileFault}
 use Rattle.io_edge.specs.declared.files.FileFault.TheVariants as file
 use Rattle.request_reading.specs.declared.refusal.RequestRefusal.{RequestRefusal}
 use Rattle.request_reading.specs.declared.refusal.RequestRefusal.TheVariants as request
+use Rattle.page_policy.specs.declared.refusal.PolicyRefusal.{PolicyRefusal}
+use Rattle.page_policy.specs.declared.refusal.PolicyRefusal.TheVariants as policy
 use Rattle.dtd_reader.specs.declared.refusal.DtdRefusal.{DtdRefusal}
 use Rattle.dtd_reader.specs.declared.refusal.DtdRefusal.TheVariants as dtd
 use Rattle.call_options.specs.declared.refusal.OptionsFault.{OptionsFault}
@@ -44,6 +46,7 @@ status_of Dtd = 10
 status_of Input = 11
 status_of Memory = 12
 status_of Deep = 13
+status_of Policy = 14
 status_of Site = 15
 status_of Words = 16
 
@@ -88,6 +91,11 @@ file_status file.Memory = Memory
 abbrev pub request_status : RequestRefusal → Exit
 request_status request.Memory = Memory
 request_status other = Input
+
+-- where a file spells no pattern that is taken
+abbrev pub policy_status : PolicyRefusal → Exit
+policy_status policy.Memory = Memory
+policy_status other = Policy
 
 -- where the text of a file gives no options
 abbrev pub option_status : OptionsRefusal → Exit

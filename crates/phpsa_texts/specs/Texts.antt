@@ -16,6 +16,8 @@ use Rattle.site_check.specs.declared.list_refusal.ListRefusal.{ListRefusal}
 use Rattle.site_check.specs.declared.list_refusal.ListRefusal.TheVariants as listing
 use Rattle.request_reading.specs.declared.refusal.RequestRefusal.{RequestRefusal}
 use Rattle.request_reading.specs.declared.refusal.RequestRefusal.TheVariants as request
+use Rattle.page_policy.specs.declared.refusal.PolicyRefusal.{PolicyRefusal}
+use Rattle.page_policy.specs.declared.refusal.PolicyRefusal.TheVariants as policy
 use Rattle.dtd_reader.specs.declared.refusal.DtdRefusal.{DtdRefusal}
 use Rattle.dtd_reader.specs.declared.refusal.DtdRefusal.TheVariants as dtd
 use Rattle.call_options.specs.Reading.{file_name}
@@ -29,7 +31,7 @@ use Rattle.plain_values.specs.declared.fault.Fault.{Fault}
 use Rattle.plain_values.specs.declared.fault.Fault.TheVariants as fault
 use Rattle.phpsa_texts.specs.declared.words.TheConstants.{HELP}
 use Rattle.phpsa_texts.specs.Shown.{shown_name}
-use Rattle.phpsa_texts.specs.JsonAnswers.{yes_json, no_json, sums_json, items_json}
+use Rattle.phpsa_texts.specs.JsonAnswers.{yes_json, no_json, sums_json, short_sums_json, items_json}
 use Rattle.phpsa_texts.specs.declared.exit.Exit.{Exit}
 use Rattle.phpsa_texts.specs.declared.message.Message.{Message}
 use Rattle.phpsa_texts.specs.declared.message.Refusal.{Refusal}
@@ -57,20 +59,29 @@ yes_text = codes "yes" ++ 10 ∷ []
 abbrev pub no_text : ℕ → List ℕ → List ℕ
 no_text len front = codes "no" ++ 10 ∷ (codes "page " ++ decimal len ++ 10 ∷ (front ++ 10 ∷ []))
 
--- on `out`, where a count of sums or tags was passed, of derivations of at most this height
-abbrev pub sums_text : List ℕ → ℕ → ℕ → List ℕ
-sums_text kind count height = codes "undecided " ++ kind ++ codes " " ++ decimal count ++ codes " height " ++ decimal height ++ 10 ∷ []
+-- on `out`, where a count of sums or tags was passed, of derivations of at most this height, or of sentences of at most this length: the word
+-- for which of both stands between
+abbrev pub sums_text : List ℕ → ℕ → List ℕ → ℕ → List ℕ
+sums_text kind count within bound = codes "undecided " ++ kind ++ codes " " ++ decimal count ++ within ++ decimal bound ++ 10 ∷ []
 
 -- on `out`, where a stated count was passed
 abbrev pub passed_text : PassedCount → List ℕ
-passed_text (passed.Pairs count height) = sums_text (codes "pairs") count height
-passed_text (passed.Tags count height) = sums_text (codes "tags") count height
+passed_text (passed.Pairs count height) = sums_text (codes "pairs") count (codes " height ") height
+passed_text (passed.Tags count height) = sums_text (codes "tags") count (codes " height ") height
+passed_text (passed.ShortPairs count len) = sums_text (codes "pairs") count (codes " length ") len
+passed_text (passed.ShortTags count len) = sums_text (codes "tags") count (codes " length ") len
 passed_text (passed.Items count) = codes "undecided items " ++ decimal count ++ 10 ∷ []
+
+-- on `out`, where a pattern has so many derivatives, over the limit
+abbrev pub many_states_text : ℕ → List ℕ
+many_states_text count = codes "undecided states " ++ decimal count ++ 10 ∷ []
 
 -- on `out`, where a stated count was passed, as JSON
 abbrev pub passed_json : PassedCount → List ℕ
 passed_json (passed.Pairs count height) = sums_json (codes "pairs") count height
 passed_json (passed.Tags count height) = sums_json (codes "tags") count height
+passed_json (passed.ShortPairs count len) = short_sums_json (codes "pairs") count len
+passed_json (passed.ShortTags count len) = short_sums_json (codes "tags") count len
 passed_json (passed.Items count) = items_json count
 
 -- these three in each form
@@ -265,6 +276,18 @@ spent_text steps = number_text (codes "Spent") steps
 abbrev pub deep_text : List ℕ
 deep_text = number_text (codes "Deep") CALL_LIMIT
 
+-- `Policy KIND`
+abbrev pub policy_kind : List ℕ → List ℕ
+policy_kind kind = codes "Policy " ++ kind
+
+-- on `err`, where a file spells no pattern that is taken: the place of what cannot stand there, from 0, its length, or the place of the first
+-- bracket that is one too many
+abbrev pub policy_text : PolicyRefusal → List ℕ
+policy_text (policy.NotPattern at) = number_text (policy_kind (codes "NotPattern")) at
+policy_text (policy.TooLong len) = number_text (policy_kind (codes "TooLong")) len
+policy_text (policy.TooDeep at) = number_text (policy_kind (codes "TooDeep")) at
+policy_text policy.Memory = memory_text
+
 -- on `err`, where a script cannot have so many functions
 abbrev pub size_text : ℕ → List ℕ
 size_text functions = number_text (codes "Size") functions
@@ -289,7 +312,7 @@ version_text = codes "phpsa 0.1.0" ++ 10 ∷ []
 
 -- what `check` takes
 abbrev pub check_usage : List ℕ
-check_usage = codes "phpsa check FILE.. [--dtd D] [--limit N] [--nesting] [--json] [--root FOLDER] [--stubs FILE]" ++ 10 ∷ []
+check_usage = codes "phpsa check FILE.. [--dtd D] [--limit N] [--nesting] [--json] [--shortest] [--root FOLDER] [--stubs FILE]" ++ 10 ∷ []
 
 -- what `run` takes
 abbrev pub run_usage : List ℕ
@@ -307,6 +330,10 @@ grammar_usage = codes "phpsa grammar FILE [--root FOLDER] [--stubs FILE]" ++ 10 
 abbrev pub make_usage : List ℕ
 make_usage = codes "phpsa make N [--check]" ++ 10 ∷ []
 
+-- what `match` takes
+abbrev pub match_usage : List ℕ
+match_usage = codes "phpsa match FILE --policy FILE [--root FOLDER] [--stubs FILE]" ++ 10 ∷ []
+
 -- what `site` takes
 abbrev pub site_usage : List ℕ
 site_usage = codes "phpsa site FILE [--dtd D] [--limit N] [--nesting] [--root FOLDER] [--stubs FILE]" ++ 10 ∷ []
@@ -315,12 +342,12 @@ site_usage = codes "phpsa site FILE [--dtd D] [--limit N] [--nesting] [--root FO
 abbrev pub help_usage : List ℕ
 help_usage = codes "phpsa --help" ++ 10 ∷ (codes "phpsa --version" ++ 10 ∷ [])
 
--- what is wrong with the words: a line that is told of them, or, where there is none, what a number is
+-- what is wrong with the words: a line that is told of them, or, where there is none, what a number is and what `match` wants
 abbrev pub reason_text : Option (List ℕ) → List ℕ
-reason_text None = codes "a number is one to eight decimal digits that are not all 0" ++ 10 ∷ []
+reason_text None = codes "a number is one to eight decimal digits that are not all 0; match wants --policy FILE" ++ 10 ∷ []
 reason_text (Some line) = shown_name line ++ 10 ∷ []
 
 -- on `err`, where words ask for nothing: its name, what is wrong, and a line for each command
 abbrev pub usage_text : Option (List ℕ) → List ℕ
 usage_text reason = codes "phpsa: Usage" ++ 10
-    ∷ (reason_text reason ++ (check_usage ++ (run_usage ++ (page_usage ++ (grammar_usage ++ (make_usage ++ (site_usage ++ help_usage)))))))
+    ∷ (reason_text reason ++ (check_usage ++ (run_usage ++ (page_usage ++ (grammar_usage ++ (make_usage ++ (match_usage ++ (site_usage ++ help_usage))))))))

@@ -4,13 +4,13 @@ ghost use Rattle.std.specs.Prelude.{◌≡◌, ◌++◌, IfOk, map, string_bytes
 ghost use Rattle.std.specs.List.{list_any};
 ghost use Rattle.site_check.specs.Report.{is_no, is_refused, is_undecided, report};
 ghost use Rattle.phpsa_texts.specs.Statuses.{conclusion_status, judgment_status, site_status};
-ghost use Rattle.phpsa_texts.specs.Texts.{Says, conclusion_word, judgment_text, no_answer, no_text, passed_answer, passed_json, passed_text, sums_text, summary_text, yes_answer};
+ghost use Rattle.phpsa_texts.specs.Texts.{Says, conclusion_word, judgment_text, many_states_text, no_answer, no_text, passed_answer, passed_json, passed_text, sums_text, summary_text, yes_answer};
 ghost use Rattle.phpsa_texts.specs.declared.exit.Exit.TheVariants.{Done, No, Undecided};
 
 use crate::exit::Exit;
 use crate::lines::append_number;
 use crate::message::Message;
-use crate::{items_json, no_json, sums_json, yes_json};
+use crate::{items_json, no_json, short_sums_json, sums_json, yes_json};
 use site_check::{Line, report};
 use std::alloc::Global;
 use text_base::{Bytes, NoMemory};
@@ -65,6 +65,10 @@ pub enum PassedCount {
     Pairs { count: u64, height: u64 },
     /// Of the unmatched tags of a sentence, by a derivation of at most this height.
     Tags { count: u64, height: u64 },
+    /// Of the different sums of the sentences of one nonterminal of at most this length in bytes.
+    ShortPairs { count: u64, length: u64 },
+    /// Of the unmatched tags of a sentence of at most this length in bytes.
+    ShortTags { count: u64, length: u64 },
     /// Of the items of an image.
     Items { count: u64 },
 }
@@ -136,8 +140,18 @@ fn passed_text(alloc: Global, passed: PassedCount) -> Result<Bytes, NoMemory>
     ensures { IfOk result (λ text. text ≡ passed_text passed) }
 {
     match passed {
-        PassedCount::Pairs { count, height } => sums_text(alloc, b"pairs", count, height),
-        PassedCount::Tags { count, height } => sums_text(alloc, b"tags", count, height),
+        PassedCount::Pairs { count, height } => {
+            sums_text(alloc, b"pairs", count, b" height ", height)
+        }
+        PassedCount::Tags { count, height } => {
+            sums_text(alloc, b"tags", count, b" height ", height)
+        }
+        PassedCount::ShortPairs { count, length } => {
+            sums_text(alloc, b"pairs", count, b" length ", length)
+        }
+        PassedCount::ShortTags { count, length } => {
+            sums_text(alloc, b"tags", count, b" length ", length)
+        }
         PassedCount::Items { count } => {
             let mut text = Bytes::from_slice(alloc, b"undecided items ")?;
             append_number(alloc, &mut text, count)?;
@@ -147,15 +161,34 @@ fn passed_text(alloc: Global, passed: PassedCount) -> Result<Bytes, NoMemory>
     }
 }
 
-fn sums_text(alloc: Global, kind: &[u8], count: u64, height: u64) -> Result<Bytes, NoMemory>
-    ensures { IfOk result (λ text. text ≡ sums_text kind.now count height) }
+/// That a pattern has so many derivatives, so that a script is not decided.
+pub fn many_states_message(alloc: Global, count: u64) -> Result<Message, NoMemory>
+    ensures { IfOk result (λ message. Says message Undecided (many_states_text count)) }
+{
+    let mut text = Bytes::from_slice(alloc, b"undecided states ")?;
+    append_number(alloc, &mut text, count)?;
+    text.append(b"\n")?;
+    Ok(Message {
+        status: Exit::Undecided,
+        text,
+    })
+}
+
+fn sums_text(
+    alloc: Global,
+    kind: &[u8],
+    count: u64,
+    within: &[u8],
+    bound: u64,
+) -> Result<Bytes, NoMemory>
+    ensures { IfOk result (λ text. text ≡ sums_text kind.now count within.now bound) }
 {
     let mut text = Bytes::from_slice(alloc, b"undecided ")?;
     text.append(kind)?;
     text.append(b" ")?;
     append_number(alloc, &mut text, count)?;
-    text.append(b" height ")?;
-    append_number(alloc, &mut text, height)?;
+    text.append(within)?;
+    append_number(alloc, &mut text, bound)?;
     text.append(b"\n")?;
     Ok(text)
 }
@@ -166,6 +199,8 @@ fn passed_json(alloc: Global, passed: PassedCount) -> Result<Bytes, NoMemory>
     match passed {
         PassedCount::Pairs { count, height } => sums_json(alloc, "pairs", count, height),
         PassedCount::Tags { count, height } => sums_json(alloc, "tags", count, height),
+        PassedCount::ShortPairs { count, length } => short_sums_json(alloc, "pairs", count, length),
+        PassedCount::ShortTags { count, length } => short_sums_json(alloc, "tags", count, length),
         PassedCount::Items { count } => items_json(alloc, count),
     }
 }

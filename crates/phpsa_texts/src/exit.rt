@@ -8,10 +8,10 @@ use site_check::{FAULT_STATUS, MISSING_STATUS};
 /// How a call ended: a variant for each status.
 #[derive(Clone, Copy, Debug, PartialEq, Eq)]
 pub enum Exit {
-    /// 0: every loose page is good, or the page is valid, or the script or the grammar is written,
-    /// or the run has come to its end.
+    /// 0: every loose page is good, or fits the pattern, or the page is valid, or the script or the
+    /// grammar is written, or the run has come to its end.
     Done,
-    /// 1: a loose page is not good, or the page is not valid.
+    /// 1: a loose page is not good, or does not fit the pattern, or the page is not valid.
     No,
     /// 2: a stated count was passed, and the script is not decided.
     Undecided,
@@ -40,6 +40,8 @@ pub enum Exit {
     Memory,
     /// 13: the run would have had 257 calls open at once.
     Deep,
+    /// 14: the file of a pattern spells none, or is over a limit.
+    Policy,
     /// 15: a script of a list is refused, and none of the others may print a page that is not good or
     /// is not decided.
     Site,
@@ -67,6 +69,7 @@ impl Exit {
             Exit::Input => 11,
             Exit::Memory => 12,
             Exit::Deep => 13,
+            Exit::Policy => 14,
             Exit::Site => 15,
             Exit::Words => 16,
         }

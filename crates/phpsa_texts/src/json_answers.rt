@@ -1,6 +1,6 @@
-//! Answers as JSON: one compact object and a line feed. `yes_json`, `no_json`, `sums_json` and
-//! `items_json` give exactly the texts of specs/JsonAnswers.antt, built with `serde_json`. Below
-//! stand `text_base`, `serde_json` and `hex`.
+//! Answers as JSON: one compact object and a line feed. `yes_json`, `no_json`, `sums_json`,
+//! `short_sums_json` and `items_json` give exactly the texts of specs/JsonAnswers.antt, built with
+//! `serde_json`. Below stand `text_base`, `serde_json` and `hex`.
 
 ghost use Rattle.std.specs.Prelude.{◌≡◌, ◌++◌, ◌∷◌, [], IfOk, codes, decimal, string_bytes};
 ghost use Rattle.hex.specs.Hex.{encode_lower};
@@ -48,6 +48,23 @@ fn sums_object(alloc: Global, kind: &str, count: u64, height: u64) -> Result<Str
         ++ (decimal count ++ (codes ",\"height\":" ++ (decimal height ++ (codes ",\"kind\":" ++ (quoted kind.now ++ codes "}")))))) }
 {
     let value = sums_value(alloc, kind, count, height)?;
+    value.to_string(alloc)
+}
+
+fn short_value(alloc: Global, kind: &str, count: u64, length: u64) -> Result<Value, AllocError>
+    ensures { IfOk result
+        (λ v. view v ≡ object (member (codes "answer") (string (codes "undecided"))
+        (member (codes "count") (number (unsigned count)) (member (codes "kind") (string kind.now)
+        (member (codes "length") (number (unsigned length)) no_members))))) }
+{
+    json!(in alloc; {"answer": "undecided", "count": count, "kind": kind, "length": length})
+}
+
+fn short_object(alloc: Global, kind: &str, count: u64, length: u64) -> Result<String, AllocError>
+    ensures { IfOk result (λ text. string_bytes text ≡ codes "{\"answer\":\"undecided\",\"count\":"
+        ++ (decimal count ++ (codes ",\"kind\":" ++ (quoted kind.now ++ (codes ",\"length\":" ++ (decimal length ++ codes "}")))))) }
+{
+    let value = short_value(alloc, kind, count, length)?;
     value.to_string(alloc)
 }
 
@@ -100,6 +117,20 @@ pub fn sums_json(alloc: Global, kind: &str, count: u64, height: u64) -> Result<B
     ensures { IfOk result (λ text. text ≡ spec.sums_json kind.now count height) }
 {
     let object = sums_object(alloc, kind, count, height)?;
+    line_of(alloc, object.as_str())
+}
+
+/// That a count of this kind was passed, of sentences of at most so many bytes:
+/// `{"answer":"undecided","count":COUNT,"kind":"KIND","length":LENGTH}` and a line feed.
+pub fn short_sums_json(
+    alloc: Global,
+    kind: &str,
+    count: u64,
+    length: u64,
+) -> Result<Bytes, NoMemory>
+    ensures { IfOk result (λ text. text ≡ spec.short_sums_json kind.now count length) }
+{
+    let object = short_object(alloc, kind, count, length)?;
     line_of(alloc, object.as_str())
 }
 

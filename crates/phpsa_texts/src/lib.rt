@@ -20,17 +20,17 @@ mod telling;
 mod words;
 
 pub use answers::{
-    AnswerForm, Conclusion, PassedCount, judgment_message, no_message, passed_message,
-    site_message, summary_message, yes_message,
+    AnswerForm, Conclusion, PassedCount, judgment_message, many_states_message, no_message,
+    passed_message, site_message, summary_message, yes_message,
 };
 pub use definitions::{definition_refusal, states_refusal};
 pub use exit::Exit;
-pub use json_answers::{items_json, no_json, sums_json, yes_json};
+pub use json_answers::{items_json, no_json, short_sums_json, sums_json, yes_json};
 pub use lines::{NO_MEMORY, WRITE_FAULT};
 pub use message::{Message, Refusal};
 pub use options::options_refusal;
 pub use other_refusals::{
-    file_refusal, list_refusal, long_text_refusal, request_refusal, size_refusal,
+    file_refusal, list_refusal, long_text_refusal, policy_refusal, request_refusal, size_refusal,
 };
 pub use programs::load_refusal;
 pub use runs::{deep_message, fault_message, spent_message};

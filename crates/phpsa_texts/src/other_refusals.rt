@@ -1,9 +1,9 @@
 //! Of a page that is not read, of a script that has a long text or is not made, and of a file that
-//! holds no request or no list.
+//! holds no request, no pattern or no list.
 
 ghost use Rattle.std.specs.Prelude.{◌≡◌, IfOk};
-ghost use Rattle.phpsa_texts.specs.Statuses.{file_status, list_status, request_status};
-ghost use Rattle.phpsa_texts.specs.Texts.{IsTold, file_text, list_text, long_text, request_text, size_text};
+ghost use Rattle.phpsa_texts.specs.Statuses.{file_status, list_status, policy_status, request_status};
+ghost use Rattle.phpsa_texts.specs.Texts.{IsTold, file_text, list_text, long_text, policy_text, request_text, size_text};
 ghost use Rattle.phpsa_texts.specs.declared.exit.Exit.TheVariants.{Input};
 
 use crate::exit::Exit;
@@ -11,6 +11,7 @@ use crate::lines::{NO_MEMORY, counted_text, named_text, number_text};
 use crate::message::Refusal;
 use crate::telling::told;
 use io_edge::FileFault;
+use page_policy::PolicyRefusal;
 use request_reading::RequestRefusal;
 use site_check::ListRefusal;
 use std::alloc::Global;
@@ -78,6 +79,34 @@ pub fn request_refusal(alloc: Global, refusal: &RequestRefusal) -> Refusal
     ensures { IsTold result (request_status refusal.now) (request_text refusal.now) }
 {
     told(request_status(refusal), request_text(alloc, refusal))
+}
+
+fn policy_text(alloc: Global, refusal: PolicyRefusal) -> Result<Bytes, NoMemory>
+    ensures { IfOk result (λ text. text ≡ policy_text refusal) }
+{
+    match refusal {
+        PolicyRefusal::NotPattern { at } => number_text(alloc, b"Policy NotPattern", at as u64),
+        PolicyRefusal::TooLong { len } => number_text(alloc, b"Policy TooLong", len as u64),
+        PolicyRefusal::TooDeep { at } => number_text(alloc, b"Policy TooDeep", at as u64),
+        PolicyRefusal::Memory => Bytes::from_slice(alloc, NO_MEMORY),
+    }
+}
+
+fn policy_status(refusal: PolicyRefusal) -> Exit
+    ensures { result ≡ policy_status refusal }
+{
+    match refusal {
+        PolicyRefusal::NotPattern { .. } | PolicyRefusal::TooLong { .. } => Exit::Policy,
+        PolicyRefusal::TooDeep { .. } => Exit::Policy,
+        PolicyRefusal::Memory => Exit::Memory,
+    }
+}
+
+/// Why a file spells no pattern that is taken.
+pub fn policy_refusal(alloc: Global, refusal: PolicyRefusal) -> Refusal
+    ensures { IsTold result (policy_status refusal) (policy_text refusal) }
+{
+    told(policy_status(refusal), policy_text(alloc, refusal))
 }
 
 /// Why the text of a file is no list of scripts.

@@ -21,16 +21,17 @@ pub const HELP: &[u8] = b"phpsa says whether all pages that a PHP script can pri
   phpsa page FILE     Says whether one page is valid.
   phpsa grammar FILE  Writes the grammar of the pages of a script.
   phpsa make N        Writes a test script of N functions; --check decides it.
+  phpsa match FILE    Says whether each page of a script fits a pattern.
   phpsa site FILE     Decides each script of a list, a line of JSON for each.
 
   --dtd TYPE          check, page, site: strict (if left out), mini or a file.
   --limit N           check, site: gives up at over N sums, 10000 if left out.
   --nesting           check, site: asks only that the tags of a page match.
-  --json              check: writes the answer as a line of JSON.
+  --json, --shortest  check: answers as JSON; shows a bad page of fewest bytes.
   --root FOLDER       all but make: what is included lies in it or below it.
-  --stubs FILE        check, run, grammar, site: the functions of this script
-                      stand for functions of PHP that phpsa does not know.
+  --stubs FILE        all but page, make: a script of functions that PHP has.
   --request FILE      run: the request, as JSON; an empty one if left out.
+  --policy FILE       match: the pattern that each page is to fit as a whole.
   --steps N           run: stops after N steps, 10000000 if left out.
   --help, --version   Writes this, or the version.
 
@@ -41,11 +42,12 @@ Example:  phpsa check guests.php --dtd strict
 
 /// A line for each command.
 const USAGE_LINES: &[u8] =
-    b"phpsa check FILE.. [--dtd D] [--limit N] [--nesting] [--json] [--root FOLDER] [--stubs FILE]
+    b"phpsa check FILE.. [--dtd D] [--limit N] [--nesting] [--json] [--shortest] [--root FOLDER] [--stubs FILE]
 phpsa run FILE [--request FILE] [--steps N] [--root FOLDER] [--stubs FILE]
 phpsa page FILE [--dtd D] [--root FOLDER]
 phpsa grammar FILE [--root FOLDER] [--stubs FILE]
 phpsa make N [--check]
+phpsa match FILE --policy FILE [--root FOLDER] [--stubs FILE]
 phpsa site FILE [--dtd D] [--limit N] [--nesting] [--root FOLDER] [--stubs FILE]
 phpsa --help
 phpsa --version
@@ -81,7 +83,8 @@ fn reason_text(alloc: Global, reason: Option<&[u8]>) -> Result<Bytes, NoMemory>
 {
     let mut text = match reason {
         None => {
-            let what = b"a number is one to eight decimal digits that are not all 0";
+            let what =
+                b"a number is one to eight decimal digits that are not all 0; match wants --policy FILE";
             Bytes::from_slice(alloc, what)?
         }
         Some(line) => shown_name(alloc, line)?,
@@ -101,8 +104,8 @@ fn usage_text(alloc: Global, reason: Option<&[u8]>) -> Result<Bytes, NoMemory>
     Ok(text)
 }
 
-/// That words ask for nothing, with a line that says why, or none where a number is none; and what
-/// they may ask for.
+/// That words ask for nothing, with a line that says why, or none where a number is none or `match`
+/// has no pattern; and what they may ask for.
 pub fn usage_refusal(alloc: Global, reason: Option<&[u8]>) -> Refusal
     ensures { IsTold result Usage (usage_text (option_map (λ line. line.now) reason.entry)) }
 {

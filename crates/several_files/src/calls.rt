@@ -39,7 +39,7 @@ fn ends_all(status: Exit) -> bool
         Exit::Usage | Exit::WriteFault | Exit::Memory => true,
         Exit::Done | Exit::No | Exit::Undecided | Exit::Script | Exit::Fault => false,
         Exit::Spent | Exit::Missing | Exit::ReadFault | Exit::Dtd | Exit::Input => false,
-        Exit::Deep | Exit::Site | Exit::Words => false,
+        Exit::Deep | Exit::Policy | Exit::Site | Exit::Words => false,
     }
 }
 

@@ -28,7 +28,8 @@ pub(crate) fn outcome_of(status: Exit) -> Outcome
         Exit::Undecided => Outcome::Undecided,
         Exit::Script | Exit::Fault | Exit::Spent | Exit::Missing => Outcome::Unread,
         Exit::ReadFault | Exit::WriteFault | Exit::Usage | Exit::Dtd => Outcome::Unread,
-        Exit::Input | Exit::Memory | Exit::Deep | Exit::Site | Exit::Words => Outcome::Unread,
+        Exit::Input | Exit::Memory | Exit::Deep | Exit::Policy => Outcome::Unread,
+        Exit::Site | Exit::Words => Outcome::Unread,
     }
 }
 

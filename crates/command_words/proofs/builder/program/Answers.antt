@@ -15,4 +15,5 @@ returns c =
     let s3 = c.in_ok-program-3.ensures.app ∙ ap₂ with_subcommand s2 (ap top_by c.row_with-page.ensures) in
     let s4 = c.in_ok-program-4.ensures.app ∙ ap₂ with_subcommand s3 (ap top_by c.row_with-grammar.ensures) in
     let s5 = c.in_ok-program-5.ensures.app ∙ ap₂ with_subcommand s4 (ap top_by c.row_with-make.ensures) in
-    record { app = IfOk-weaker c.with_command-6.result _ _ (λ m h. h ∙ ap₂ with_subcommand s5 (ap top_by c.row_with-site.ensures)) c.with_command-6.ensures.app }
+    let s6 = c.in_ok-program-6.ensures.app ∙ ap₂ with_subcommand s5 (ap top_by c.row_with-site.ensures) in
+    record { app = IfOk-weaker c.with_command-7.result _ _ (λ m h. h ∙ ap₂ with_subcommand s6 (ap top_by c.row_with-match_pattern.ensures)) c.with_command-7.ensures.app }

@@ -1,0 +1,3 @@
+pub mod ShortTexts
+pub mod ShortPages
+pub mod LedBack

@@ -1,0 +1,132 @@
+-- What is found of the pages of a grammar is an answer for the program.
+use Rattle.std.proofs.Common.{◌≡◌, ◌<◌, ◌↔◌, ℕ, List, [], ◌∷◌, map, length, refl, sym, ap, subst, Result, Ok, Err, IfOk}
+use Rattle.text_base.specs.declared.letter.Letter.{Letter}
+use Rattle.text_base.specs.declared.letter.Letter.TheVariants.{OfByte}
+use Rattle.text_base.specs.declared.memory.NoMemory.{NoMemory}
+use Rattle.text_base.specs.declared.page_token.PageToken.{PageToken}
+use Rattle.text_base.specs.declared.numbers.Nt as nt
+use Rattle.cfg_grammar.specs.declared.symbol.Symbol.TheVariants.{Nt}
+use Rattle.cfg_grammar.specs.declared.production.Production.{Production}
+use Rattle.cfg_grammar.specs.declared.grammar.Grammar.{Grammar}
+use Rattle.derivations.specs.declared.derivation.Derivation.{Derivation}
+use Rattle.derivations.specs.Stands.{IsDerivation}
+use Rattle.derivations.specs.Bytes.{bytes_in}
+use Rattle.derivations.specs.Nodes.{most}
+use Rattle.dtd_model.specs.Table.{Table}
+use Rattle.echoing_machine.specs.Echoes.{EchoStep, EchoEnd}
+use Rattle.page_reader.specs.States.{first_state, tokens_at, tokens_behind}
+use Rattle.merged_reader.specs.States.{merged_next}
+use Rattle.fst_core.specs.Outputs.{DerivesText}
+use Rattle.page_decision.specs.declared.goal.Goal.{Goal}
+use Rattle.page_decision.specs.Goals.{IsGood}
+use Rattle.page_decision.specs.Echoes.{IsMachineImage}
+use Rattle.page_decision.specs.TextVerdicts.{IsDerivationOf}
+use Rattle.program_rules.specs.Lawful.{IsLawful}
+use Rattle.flow_runs.specs.Texts.{TextsFit}
+use Rattle.script_meaning.specs.Programs.{PlainProgram}
+use Rattle.loose_grammar.specs.Pages.{IsLoosePage, IsPageGrammar, DerivePages}
+use Rattle.script_decision.specs.Answers.{EachIsGood, RunsAreGood}
+use Rattle.script_decision.specs.Decision.{IsReaderImage}
+use Rattle.script_decision.specs.declared.showing_pages.ShownPage.{ShownPage}
+use Rattle.script_decision.specs.Shows.{Shows}
+use Rattle.short_sentences.specs.declared.answer.ShortAnswer.{ShortAnswer}
+use Rattle.short_sentences.specs.declared.answer.ShortAnswer.TheVariants.{Whole, Shortest, Pairs, Tags}
+use Rattle.short_page.specs.ShortPages.{AreShorterGood, IsShortestBad, HasShortSums, HasShortTags, HasManyShortSums, HasManyShortTags, IsShortPageAnswer}
+use Rattle.shortest_decision.specs.declared.answer.ShortestAnswer.{ShortestAnswer}
+use Rattle.shortest_decision.specs.declared.answer.ShortestAnswer.TheVariants as answer
+use Rattle.shortest_decision.specs.Answers.{IsShownShortest, IsShortestAnswer, SaysOfRuns}
+
+same_bytes : (u v : List ℕ) → map OfByte u ≡ map OfByte v → u ≡ v
+same_bytes [] [] e = refl
+same_bytes [] (b ∷ v) e = cc
+same_bytes (a ∷ u) [] e = cc
+same_bytes (a ∷ u) (b ∷ v) e =
+    let rest : u ≡ v = same_bytes u v (cc) in
+    let first : a ≡ b = cc in
+    cc
+
+own_bytes : (text : List ℕ) → bytes_in (map OfByte text) ≡ text
+own_bytes [] = refl
+own_bytes (b ∷ text) = ap (λ (bs : List ℕ). b ∷ bs) (own_bytes text)
+
+-- this is shown of the bytes of each sentence that the derivation is one of
+abbrev pub ShowsEach : Derivation → ShownPage → Type 0
+ShowsEach derivation shown = (ps : List Production) (left : nt.Nt) (w : List Letter) → IsDerivation ps derivation.nodes.nodes.items left w → Shows (bytes_in w) shown
+
+-- where each loose page is good, so are runs
+abbrev pub RunsFollow : Type 0
+RunsFollow = (goal : Goal) (table : Table) (program : PlainProgram) → IsLawful program → TextsFit program → EachIsGood goal table program → RunsAreGood goal table program
+
+-- what is found of the pages of a grammar, by the reader of the definition's pages
+abbrev pub IsFound : Goal → Table → Grammar → ℕ → ShortAnswer → Type 0
+IsFound goal table grammar limit found =
+    IsShortPageAnswer table (DerivesText grammar.productions.items (Nt grammar.start))
+    (IsMachineImage grammar first_state (EchoStep (merged_next table) (tokens_at table) (tokens_behind table)) (EchoEnd (merged_next table) (tokens_at table) (tokens_behind table)))
+    (IsDerivationOf grammar) goal limit found
+
+module _ (goal : Goal) (table : Table) (program : PlainProgram) (grammar : Grammar) (is_grammar : IsPageGrammar program grammar) where
+  abbrev IsPage : List ℕ → Type 0
+  IsPage = DerivesText grammar.productions.items (Nt grammar.start)
+
+  abbrev IsImage : Grammar → Type 0
+  IsImage = IsMachineImage grammar first_state (EchoStep (merged_next table) (tokens_at table) (tokens_behind table)) (EchoEnd (merged_next table) (tokens_at table) (tokens_behind table))
+
+  page_loose : (page : List ℕ) → IsPage page → IsLoosePage program page
+  page_loose page d = let h = (is_grammar.pages (map OfByte page)).0 d in subst (λ (p : List ℕ). IsLoosePage program p) (sym (same_bytes page h.0 h.1)) h.2
+
+  loose_page : (page : List ℕ) → IsLoosePage program page → IsPage page
+  loose_page page loose = (is_grammar.pages (map OfByte page)).1 (page, refl, loose)
+
+  of_image : (image : Grammar) → IsImage image → IsReaderImage table program image
+  of_image image of_grammar = record { grammar = grammar; of_program = is_grammar; of_grammar = of_grammar }
+
+  shorter_good : (asked : Goal) (l : ℕ) → AreShorterGood table IsPage asked l → AreShorterGood table (IsLoosePage program) asked l
+  shorter_good asked l all page loose less = all page (loose_page page loose) less
+
+  pub each_good : ((page : List ℕ) → IsPage page → IsGood goal table page) → EachIsGood goal table program
+  each_good all page loose = all page (loose_page page loose)
+
+  pub shown_shortest : (derivation : Derivation) (shown : ShownPage) → ShowsEach derivation shown → IsShortestBad table IsPage (IsDerivationOf grammar) goal derivation → IsShownShortest goal table program shown
+  shown_shortest derivation shown each is = record {
+    page = is.page;
+    loose = page_loose is.page is.is_page;
+    bad = is.bad;
+    shows = subst (λ (page : List ℕ). Shows page shown) (own_bytes is.page) (each grammar.productions.items grammar.start (map OfByte is.page) is.derives);
+    shortest = λ other loose less few. is.shortest other (loose_page other loose) less few;
+  }
+
+  sums_wider : {S : Type 0} (sum_by : List PageToken → S) (asked : Goal) (limit count l : ℕ) → HasShortSums table IsPage IsImage sum_by asked limit count l → HasShortSums table (IsLoosePage program) (IsReaderImage table program) sum_by asked limit count l
+  sums_wider sum_by asked limit count l h =
+      record { image = h.image; is_image = of_image h.image h.is_image; over = h.over; sums = h.sums; good_below = shorter_good asked l h.good_below }
+
+  tags_wider : {S : Type 0} (sum_by : List PageToken → S) (tags : S → ℕ) (asked : Goal) (count l : ℕ) → HasShortTags table IsPage IsImage sum_by tags asked count l → HasShortTags table (IsLoosePage program) (IsReaderImage table program) sum_by tags asked count l
+  tags_wider sum_by tags asked count l h = record {
+    image = h.image;
+    is_image = of_image h.image h.is_image;
+    over = h.over;
+    nonterminal = h.nonterminal;
+    sum = h.sum;
+    of_sentence = h.of_sentence;
+    tagged = h.tagged;
+    good_below = shorter_good asked l h.good_below;
+  }
+
+  pub many_sums : (asked : Goal) (limit count l : ℕ) → HasManyShortSums table IsPage IsImage asked limit count l → HasManyShortSums table (IsLoosePage program) (IsReaderImage table program) asked limit count l
+  many_sums Goal.Valid limit count l h = (h.0, h.1, sums_wider _ Goal.Valid limit count l h.2)
+  many_sums Goal.Nested limit count l h = sums_wider _ Goal.Nested limit count l h
+
+  pub many_tags : (asked : Goal) (count l : ℕ) → HasManyShortTags table IsPage IsImage asked count l → HasManyShortTags table (IsLoosePage program) (IsReaderImage table program) asked count l
+  many_tags Goal.Valid count l h = (h.0, h.1, tags_wider _ _ Goal.Valid count l h.2)
+  many_tags Goal.Nested count l h = tags_wider _ _ Goal.Nested count l h
+
+module _ (law : RunsFollow) (goal : Goal) (table : Table) (program : PlainProgram) (lawful : IsLawful program) (fit : TextsFit program) (limit : ℕ) where
+  pub says : (a : ShortestAnswer) → IsShortestAnswer goal table program limit a → SaysOfRuns goal table program a
+  says answer.Yes each = law goal table program lawful fit each
+  says (answer.No shown) is = tt
+  says (answer.Pairs count l) is = tt
+  says (answer.Tags count l) is = tt
+  says (answer.Items count) is = tt
+
+  pub result_says : (r : Result ShortestAnswer NoMemory) → IfOk r (IsShortestAnswer goal table program limit) → IfOk r (SaysOfRuns goal table program)
+  result_says (Ok a) is = says a is
+  result_says (Err e) is = tt

@@ -1,0 +1,14 @@
+use Rattle.std.proofs.Common.{sym, subst}
+use Rattle.shortest_decision.specs.Answers.{IsShortestAnswer}
+use Rattle.shortest_decision.proofs.AnswerLemmas.{IsFound, each_good, shown_shortest, many_sums, many_tags}
+use Rattle.shortest_decision.proofs.deciding.show.Goals.{in-Whole, in-Shortest+in_ok-show_page-in-Shortest, in-Pairs, in-Tags}
+use Rattle.shortest_decision.proofs.deciding.show.Goals as goal
+
+pub returns : goal.returns
+returns c asked table program grammar limit is_grammar is = elim c.match-answer.branch [
+  | in-Whole w ↦ subst (IsShortestAnswer asked table program limit) (sym w.result-is) (each_good asked table program grammar is_grammar (subst (IsFound asked table grammar limit) w.in-Whole.is is))
+  | in-Shortest+in_ok-show_page-in-Shortest w ↦ subst (IsShortestAnswer asked table program limit) (sym w.result-is)
+      (shown_shortest asked table program grammar is_grammar _ _ w.in_ok-show_page-in-Shortest.ensures (subst (IsFound asked table grammar limit) w.in-Shortest.is is))
+  | in-Pairs w ↦ subst (IsShortestAnswer asked table program limit) (sym w.result-is) (many_sums asked table program grammar is_grammar asked limit _ _ (subst (IsFound asked table grammar limit) w.in-Pairs.is is))
+  | in-Tags w ↦ subst (IsShortestAnswer asked table program limit) (sym w.result-is) (many_tags asked table program grammar is_grammar asked _ _ (subst (IsFound asked table grammar limit) w.in-Tags.is is))
+]

@@ -1,0 +1,158 @@
+//! From a program to the answer.
+
+ghost use Rattle.std.specs.Prelude.{ℕ, IfOk, IfErr};
+ghost use Rattle.cfg_grammar.specs.declared.grammar.Grammar as grammars;
+ghost use Rattle.cfg_grammar.specs.declared.symbol.Symbol as symbols;
+ghost use Rattle.dtd_model.specs.Table.{Table};
+ghost use Rattle.dtd_model.specs.TableOf.{table_of};
+ghost use Rattle.echoing_machine.specs.Echoes.{EchoEnd, EchoStep};
+ghost use Rattle.flow_runs.specs.Texts.{TextsFit};
+ghost use Rattle.fst_core.specs.Outputs.{DerivesText};
+ghost use Rattle.loose_grammar.specs.Pages.{IsPageGrammar};
+ghost use Rattle.merged_reader.specs.States.{merged_next};
+ghost use Rattle.page_decision.specs.Echoes.{IsMachineImage};
+ghost use Rattle.page_decision.specs.PageSums.{AreSumsOf};
+ghost use Rattle.page_decision.specs.TextVerdicts.{IsDerivationOf};
+ghost use Rattle.page_decision.specs.declared.goal.Goal as goals;
+ghost use Rattle.page_reader.specs.States.{first_state, tokens_at, tokens_behind};
+ghost use Rattle.program_rules.specs.View.{program_of};
+ghost use Rattle.script_decision.specs.Decision.{IsCheckRefusal};
+ghost use Rattle.script_meaning.specs.Programs.{PlainProgram};
+ghost use Rattle.short_page.specs.ShortPages.{IsShortPageAnswer};
+ghost use Rattle.shortest_decision.specs.Answers.{IsShortestAnswer, SaysOfRuns};
+
+use crate::answer::ShortestAnswer;
+use cfg_grammar::Grammar;
+use content_automata::ContentRefusal;
+use dtd_index::IndexedDtd;
+use dtd_model::Dtd;
+use echoing_machine::Echoing;
+use grammar_image::ImageRefusal;
+use loose_grammar::{GrammarRefusal, ITEM_LIMIT, loose_grammar};
+use merged_reader::laws::reads_pages;
+use page_decision::echo_laws::echo_is_page_machine;
+use page_decision::{Goal, PageSums, sums_of};
+use page_runs::PageRunReader;
+use program_rules::Program;
+use script_decision::laws::good_loose_pages_make_good_runs;
+use script_decision::{CheckRefusal, show_page};
+use short_page::{ShortAnswer, shortest_page};
+use std::alloc::Global;
+use text_base::NoMemory;
+
+/// What was found of the pages of a grammar, as it is shown.
+fn show(alloc: Global, found: ShortAnswer) -> Result<ShortestAnswer, NoMemory>
+    ensures { IfOk result (λ answer. (goal : goals.Goal) (table : Table) (program : PlainProgram)
+        (grammar : grammars.Grammar) (limit : ℕ) → IsPageGrammar program grammar
+        → IsShortPageAnswer table
+        (DerivesText grammar.productions.items (symbols.Symbol.Nt grammar.start))
+        (IsMachineImage grammar first_state
+        (EchoStep (merged_next table) (tokens_at table) (tokens_behind table))
+        (EchoEnd (merged_next table) (tokens_at table) (tokens_behind table)))
+        (IsDerivationOf grammar) goal limit found
+        → IsShortestAnswer goal table program limit answer) }
+{
+    Ok(match found {
+        ShortAnswer::Whole => ShortestAnswer::Yes,
+        ShortAnswer::Shortest(derivation) => ShortestAnswer::No(show_page(alloc, &derivation)?),
+        ShortAnswer::Pairs { count, length } => ShortestAnswer::Pairs { count, length },
+        ShortAnswer::Tags { count, length } => ShortestAnswer::Tags { count, length },
+    })
+}
+
+/// A shortest page that the grammar of a program derives and that is not good.
+fn decide_pages(
+    alloc: Global,
+    program: &Program,
+    grammar: &Grammar,
+    indexed: &IndexedDtd,
+    goal: Goal,
+    sums: &PageSums,
+    pairs: u64,
+) -> Result<ShortestAnswer, NoMemory>
+    requires grammar { IsPageGrammar (program_of program.now) grammar.now }
+    requires texts { TextsFit (program_of program.now) }
+    requires sums { AreSumsOf goal (table_of indexed.now.dtd.now) sums.now }
+    ensures answer { IfOk result
+        (IsShortestAnswer goal (table_of indexed.now.dtd.now) (program_of program.now) pairs) }
+    ensures sound { IfOk result
+        (SaysOfRuns goal (table_of indexed.now.dtd.now) (program_of program.now)) }
+{
+    let _ = program;
+    good_loose_pages_make_good_runs();
+    reads_pages(indexed.dtd);
+    let reader = PageRunReader { indexed };
+    echo_is_page_machine(indexed.dtd, &reader);
+    let machine = Echoing { reader };
+    match shortest_page(
+        alloc,
+        grammar,
+        indexed.dtd,
+        goal,
+        &machine,
+        sums,
+        ITEM_LIMIT,
+        pairs,
+    ) {
+        Ok(found) => show(alloc, found),
+        Err(ImageRefusal::Large { items }) => Ok(ShortestAnswer::Items { count: items }),
+        Err(ImageRefusal::Memory) => Err(NoMemory),
+    }
+}
+
+/// The answer by the definition of an index.
+fn decide_program(
+    alloc: Global,
+    program: &Program,
+    indexed: &IndexedDtd,
+    goal: Goal,
+    sums: &PageSums,
+    pairs: u64,
+) -> Result<ShortestAnswer, CheckRefusal>
+    requires { AreSumsOf goal (table_of indexed.now.dtd.now) sums.now }
+    ensures answer { IfOk result
+        (IsShortestAnswer goal (table_of indexed.now.dtd.now) (program_of program.now) pairs) }
+    ensures sound { IfOk result
+        (SaysOfRuns goal (table_of indexed.now.dtd.now) (program_of program.now)) }
+    ensures refusal { IfErr result
+        (IsCheckRefusal (table_of indexed.now.dtd.now) (program_of program.now)) }
+{
+    match loose_grammar(alloc, program) {
+        Ok(made) => match decide_pages(alloc, program, &made.grammar, indexed, goal, sums, pairs) {
+            Ok(answer) => Ok(answer),
+            Err(_) => Err(CheckRefusal::Memory),
+        },
+        Err(GrammarRefusal::Items { count }) => Ok(ShortestAnswer::Items { count }),
+        Err(GrammarRefusal::LongText) => Err(CheckRefusal::LongText),
+        Err(GrammarRefusal::Memory) => Err(CheckRefusal::Memory),
+    }
+}
+
+/// Whether each loose page of the program is good by the goal and the definition, and what is shown
+/// of a shortest one that is not, with at most `pairs` different sums of sentences a nonterminal. A
+/// yes says that each run that ends prints a good page, for every admitted request and every number
+/// of units.
+///
+/// # Errors
+///
+/// `LongText` only where a text literal of the program has over 16,777,216 bytes; `Limit` only
+/// where the content models of the definition pass a limit. `Memory` may come at any time.
+pub fn check_shortest(
+    alloc: Global,
+    program: &Program,
+    dtd: &Dtd,
+    goal: Goal,
+    pairs: u64,
+) -> Result<ShortestAnswer, CheckRefusal>
+    ensures answer { IfOk result
+        (IsShortestAnswer goal (table_of dtd.now) (program_of program.now) pairs) }
+    ensures sound { IfOk result (SaysOfRuns goal (table_of dtd.now) (program_of program.now)) }
+    ensures refusal { IfErr result (IsCheckRefusal (table_of dtd.now) (program_of program.now)) }
+{
+    let indexed = IndexedDtd::new(alloc, dtd)?;
+    match sums_of(alloc, dtd, goal) {
+        Ok(sums) => decide_program(alloc, program, &indexed, goal, &sums, pairs),
+        Err(ContentRefusal::Limit { count }) => Err(CheckRefusal::Limit { count }),
+        Err(ContentRefusal::Memory) => Err(CheckRefusal::Memory),
+    }
+}
