@@ -1,9 +1,9 @@
 -- Names that are numbered as they are asked for.
-use Rattle.std.proofs.Common.{◌≡◌, ◌≤◌, ◌+◌, ◌⊎◌, inl, inr, ℕ, Bool, true, false, if◌then◌else◌, List, [], ◌∷◌, ◌++◌, Some, length, refl, sym, subst, ap, ◌∙◌, arith, slice_get, Contains, length-append}
+use Rattle.std.proofs.Common.{◌≡◌, ◌<◌, ◌≤◌, ◌+◌, ◌⊎◌, inl, inr, ℕ, Bool, true, false, if◌then◌else◌, List, [], ◌∷◌, ◌++◌, Some, length, refl, sym, subst, ap, ◌∙◌, arith, slice_get, Contains, length-append}
 use Rattle.op_system.specs.declared.op.Op.{Op}
 use Rattle.least_sets.specs.Forms.{Form, text_form, same_form, join_form, before_form, request_form, integer_form, apply_form, yes_form, where_form}
 use Rattle.least_sets.specs.Simulations.{Alike}
-use Rattle.numbered_sets.specs.Numbers.{Keeps, AddsOnly}
+use Rattle.numbered_sets.specs.Numbers.{Keeps, AddsOnly, AreDifferent}
 use Rattle.numbered_sets.proofs.NumberLemmas.{at_front}
 use Rattle.loose_sets.specs.declared.name.SetName.{SetName}
 use Rattle.point_listing.specs.declared.form.NamedForm.{NamedForm}
@@ -21,6 +21,7 @@ use Rattle.system_writing.proofs.Sizes.{set_small, start_small, row_small}
 use Rattle.extraction.specs.declared.work.Work.{Work}
 use Rattle.extraction.specs.Steps.{IsPaired, HasNumber, Stands, Adds, Grows, IsNameNumbered, IsFormNumbered, IsRowWritten}
 use Rattle.std.proofs.lemmas.List.Elements.{Contains-push_cases}
+use Rattle.std.proofs.lemmas.Option.{slice_get_within}
 use Rattle.extraction.proofs.PlaceLemmas.{keeps_itself, keeps_both, none_of, head_cases, at_head, at_later}
 
 -- nothing was added
@@ -48,6 +49,24 @@ grows_both old mid new n m i j a b =
     let b0 = b.0 in
     let b1 = b.1 in
     (omega (arith, a0, b0), omega (arith, a1, b1))
+
+-- what the count of the names tells of the one that was numbered
+pub names_old : (old new : List SetName) (name : SetName) (b : Bool) → new ≡ (if b then old ++ name ∷ [] else old) → length new ≤ length old → new ≡ old
+names_old old new name true is few = absurd (let l = ap (λ (ns : List SetName). length ns) is in let m = length-append old (name ∷ []) in omega (arith, l, m, few))
+names_old old new name false is few = is
+
+pub names_new : (old new : List SetName) (name : SetName) (b : Bool) → new ≡ (if b then old ++ name ∷ [] else old) → length old < length new → new ≡ old ++ name ∷ []
+names_new old new name true is more = is
+names_new old new name false is more = absurd (let l = ap (λ (ns : List SetName). length ns) is in omega (arith, l, more))
+
+pub is_other : (old new : List SetName) (name : SetName) → AreDifferent new → new ≡ old ++ name ∷ [] → Contains old name → ⊥
+is_other old new name different is c =
+    let a = at_contains old name c in
+    let first : slice_get new a.0 ≡ Some name = subst (λ (ns : List SetName). slice_get ns a.0 ≡ Some name) (sym is) (at_front old name a.0 name a.1) in
+    let last : slice_get new (length old) ≡ Some name = subst (λ (ns : List SetName). slice_get ns (length old) ≡ Some name) (sym is) (at_end old name) in
+    let same = different a.0 (length old) name first last in
+    let within = slice_get_within old a.0 name a.1 in
+    absurd (omega (arith, within, same))
 
 -- a name that is there
 pub old_name : (old new : Work) (name : SetName) (place k : ℕ) → new.names.keys ≡ old.names.keys → new.numbers.items ≡ old.numbers.items → new.draft ≡ old.draft → IsPaired old → slice_get new.names.keys place ≡ Some name → slice_get new.numbers.items place ≡ Some k
