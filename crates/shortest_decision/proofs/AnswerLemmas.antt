@@ -1,5 +1,5 @@
 -- What is found of the pages of a grammar is an answer for the program.
-use Rattle.std.proofs.Common.{ℕ, List, map, subst, Result, Ok, Err, IfOk}
+use Rattle.std.proofs.Common.{◌<◌, ℕ, List, map, subst, Result, Ok, Err, IfOk}
 use Rattle.text_base.specs.declared.letter.Letter.TheVariants.{OfByte}
 use Rattle.text_base.specs.declared.memory.NoMemory.{NoMemory}
 use Rattle.text_base.specs.declared.page_token.PageToken.{PageToken}
@@ -11,6 +11,7 @@ use Rattle.dtd_model.specs.Table.{Table}
 use Rattle.echoing_machine.specs.Echoes.{EchoStep, EchoEnd}
 use Rattle.page_reader.specs.States.{first_state, tokens_at, tokens_behind}
 use Rattle.merged_reader.specs.States.{merged_next}
+use Rattle.fst_core.specs.Items.{HasItems}
 use Rattle.fst_core.specs.Outputs.{DerivesText}
 use Rattle.page_decision.specs.declared.goal.Goal.{Goal}
 use Rattle.page_decision.specs.Goals.{IsGood}
@@ -19,6 +20,7 @@ use Rattle.page_decision.specs.TextVerdicts.{IsDerivationOf}
 use Rattle.program_rules.specs.Lawful.{IsLawful}
 use Rattle.flow_runs.specs.Texts.{TextsFit}
 use Rattle.script_meaning.specs.Programs.{PlainProgram}
+use Rattle.loose_grammar.specs.declared.refusal.TheConstants.{ITEM_LIMIT}
 use Rattle.loose_grammar.specs.Pages.{IsLoosePage, IsPageGrammar}
 use Rattle.script_decision.specs.Answers.{EachIsGood, RunsAreGood}
 use Rattle.script_decision.specs.Decision.{IsReaderImage}
@@ -31,7 +33,7 @@ use Rattle.short_sentences.specs.declared.answer.ShortAnswer.TheVariants.{Whole,
 use Rattle.short_page.specs.ShortPages.{AreShorterGood, IsShortestBad, HasShortSums, HasShortTags, HasManyShortSums, HasManyShortTags, IsShortPageAnswer}
 use Rattle.shortest_decision.specs.declared.answer.ShortestAnswer.{ShortestAnswer}
 use Rattle.shortest_decision.specs.declared.answer.ShortestAnswer.TheVariants as answer
-use Rattle.shortest_decision.specs.Answers.{IsShownShortest, IsShortestAnswer, SaysOfRuns}
+use Rattle.shortest_decision.specs.Answers.{IsShownShortest, by_pages, HasManyItems, IsShortestAnswer, SaysOfRuns}
 
 -- where each loose page is good, so are runs
 abbrev pub RunsFollow : Type 0
@@ -98,6 +100,12 @@ module _ (goal : Goal) (table : Table) (program : PlainProgram) (grammar : Gramm
   pub many_tags : (asked : Goal) (count l : ℕ) → HasManyShortTags table IsPage IsImage asked count l → HasManyShortTags table (IsLoosePage program) (IsReaderImage table program) asked count l
   many_tags Goal.Valid count l h = (h.0, h.1, tags_wider _ _ Goal.Valid count l h.2)
   many_tags Goal.Nested count l h = tags_wider _ _ Goal.Nested count l h
+
+-- a count of items of the pages' image
+pub many_items : (table : Table) (program : PlainProgram) (grammar : Grammar) (count : ℕ) → IsPageGrammar program grammar
+    → (ITEM_LIMIT < count) × HasItems grammar.productions.items (EchoStep (merged_next table) (tokens_at table) (tokens_behind table)) grammar.start first_state count
+    → (ITEM_LIMIT < count) × HasManyItems table program count
+many_items table program grammar count is (over, has) = (over, by_pages grammar is has)
 
 module _ (law : RunsFollow) (goal : Goal) (table : Table) (program : PlainProgram) (lawful : IsLawful program) (fit : TextsFit program) (limit : ℕ) where
   pub says : (a : ShortestAnswer) → IsShortestAnswer goal table program limit a → SaysOfRuns goal table program a
