@@ -1,6 +1,7 @@
 #!/usr/bin/env bash
 # Prints how long `phpsa check` takes for generated scripts of each kind, for a size and for its double, and the ratio of
-# the two, in processor seconds of one run; and for a page of text the ratio to `phpsa page` on the same page. Runs
+# the two, in processor seconds of one run, and how many times that `check --shortest` takes for the double; the same for
+# `phpsa match` with a pattern of 40 positions; and for a page of text the ratio to `phpsa page` on the same page. Runs
 # the program that ./phpsa would run, and builds it where there is none. No test of the gate runs this.
 
 top=$(cd -- "$(dirname -- "$0")/../.." && pwd)
@@ -40,15 +41,30 @@ seconds() { local TIMEFORMAT='%U %S'; { time "$program" "$@" >out 2>err; } 2>&1 
 # megabytes WORDS..: the most memory of a run, in megabytes, where GNU time is there to tell it
 megabytes() { /usr/bin/time -f %M "$program" "$@" 2>&1 >out | awk 'END { if ($1 > 0) printf "%d", $1 / 1024; else printf "?" }'; }
 
-# row KIND SIZE: the seconds for the size and for its double, and their ratio
+# row KIND SIZE: the seconds for the size and for its double, and their ratio; those with the flag for the double, and that ratio
 row() {
   "$1" "$2" >one.php
   "$1" $(($2 * 2)) >two.php
-  local one two
+  local one two short
   one=$(seconds check one.php)
   two=$(seconds check two.php)
-  awk -v kind="$1" -v size="$2" -v one="$one" -v two="$two" \
-    'BEGIN { printf "%-10s %7d %8.2f s   %7d %8.2f s   ratio %.1f\n", kind, size, one, 2 * size, two, two / (one > 0 ? one : 0.01) }'
+  short=$(seconds check two.php --shortest)
+  awk -v kind="$1" -v size="$2" -v one="$one" -v two="$two" -v short="$short" \
+    'BEGIN { printf "%-10s %7d %8.2f s   %7d %8.2f s   ratio %.1f   shortest %8.2f s   ratio %.1f\n", \
+      kind, size, one, 2 * size, two, two / (one > 0 ? one : 0.01), short, short / (two > 0 ? two : 0.01) }'
+}
+
+# match_row SIZE: the same of `match` for generated scripts of so many functions, whose pages all fit
+match_row() {
+  made "$1" >one.php
+  made $(($1 * 2)) >two.php
+  printf '%s' '[^<]*(<(/?(div|p|html|head|title|body|h1|ul|li|em|br|hr)|!)[^>]*>[^<]*)*' >pattern
+  local one two
+  one=$(seconds match one.php --policy pattern)
+  two=$(seconds match two.php --policy pattern)
+  awk -v size="$1" -v one="$one" -v two="$two" -v answer="$(head -c 9 out)" \
+    'BEGIN { printf "match      %7d %8.2f s   %7d %8.2f s   ratio %.1f   %s\n", \
+      size, one, 2 * size, two, two / (one > 0 ? one : 0.01), answer }'
 }
 
 row made 100
@@ -61,6 +77,9 @@ row members 100
 row variables 40
 row calls 125
 row text 262144
+match_row 100
+match_row 250
+match_row 500
 
 text 1048000 >page.php
 page=$(seconds page page.php)

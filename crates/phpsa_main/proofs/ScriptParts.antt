@@ -38,7 +38,7 @@ use Rattle.phpsa_tasks.specs.Results.{TaskResult, Does}
 use Rattle.phpsa_tasks.proofs.Faults.{told_faults, wanted_faults}
 use Rattle.phpsa_tasks.proofs.Defining.{definition_faults}
 use Rattle.phpsa_tasks.proofs.Loading.{at_stubs}
-use Rattle.phpsa_main.specs.Decided.{Decision, IsDecidedAs, IsReadBy, ReadsBy, Decides, IsProgramRefused, IsProgramDecided, HasShortestReply}
+use Rattle.phpsa_main.specs.Decided.{Decision, IsDecidedAs, IsReadBy, ReadsBy, Decides, IsProgramRefused, IsProgramDecided, IsShortestDecided, HasShortestReply}
 
 pub load_uncounted : (cause : LoadRefusal) → Contains uncounted (load_status cause)
 load_uncounted (load.Missing name) = (1, lit< tt, refl)
@@ -234,3 +234,9 @@ pub unread_does : (files : SourceCall) (file : ScriptFile) (d : NamedType) (goal
     → Does files (script_check file d goal limit form PageChoice.Shortest) (Err refusal)
 unread_does files file d goal limit form (Refusal.Told message) is = record { due = is.why; read = is.read; faults = is.faults }
 unread_does files file d goal limit form Refusal.Memory is = wanting_does files file d goal limit form PageChoice.Shortest
+
+-- the program has no answer
+pub refused_shortest : (table : Table) (program : PlainProgram) (name : List ℕ) (goal : Goal) (limit : ℕ) (form : AnswerForm) (refusal : Refusal)
+    → IsShortestDecided table program name goal limit (Err refusal) → HasShortestReply table program name goal limit form (Err refusal)
+refused_shortest table program name goal limit form (Refusal.Told message) says = says
+refused_shortest table program name goal limit form Refusal.Memory says = tt

@@ -25,13 +25,14 @@ use Rattle.phpsa_tasks.specs.Results.{TaskResult}
 use Rattle.phpsa_tasks.specs.Causes.{RefusesScript}
 use Rattle.phpsa_tasks.specs.Sites.{RefusesByTable}
 use Rattle.phpsa_tasks.specs.Counted.{uncounted, ReadsItsFiles, MissesItsNames, TellsFaults}
-use Rattle.phpsa_main.specs.declared.loading.ScriptBy.{ScriptBy}
+use Rattle.phpsa_main.specs.declared.script_by.ScriptBy.{ScriptBy}
 
 -- an answer, a message for `err`, or want of memory
 abbrev pub Decision : Type 0
 Decision = Result ShownAnswer Refusal
 
--- the program of the file has this answer, by the definition of the document type; each name that it asks for was asked for once, and no fault was counted
+-- the program of the file has this answer, by the definition of the document type; each name that it asks for was asked for once, and no
+-- fault was counted
 pub record IsDecidedAs (files : SourceCall) (file : ScriptFile) (document_type : NamedType) (goal : Goal) (limit : ℕ) (answer : ShownAnswer) :
     Type 0 where
   pub program : PlainProgram
@@ -48,8 +49,8 @@ pub record IsRefusedBy (files : SourceCall) (file : ScriptFile) (document_type :
   pub read : IsBuiltIn document_type → Contains uncounted message.status ⊎ ReadsItsFiles files file
   pub faults : TellsFaults files message.status
 
--- the program of a file is loaded, behind it the definition of the document type was read, each name that the program asks for was asked for
--- once, and no fault was counted
+-- the program of a file is loaded, behind it the definition of the document type was read, each name that the program asks for was asked
+-- for once, and no fault was counted
 pub record IsReadBy (files : SourceCall) (file : ScriptFile) (document_type : NamedType) (program : PlainProgram) (table : Table) : Type 0 where
   pub loaded : IsLoadedInside files.content file program
   pub has : HasTable files.content document_type table

@@ -25,6 +25,7 @@ mod page;
 mod report;
 mod running;
 mod script;
+mod script_by;
 mod shortest;
 mod site_lines;
 
@@ -44,16 +45,17 @@ use text_base::NoMemory;
 /// with.
 ///
 /// The words are a command, its file or number, and its options in any order: `check FILE`, `run
-/// FILE`, `page FILE`, `grammar FILE`, `make N`, `match FILE` and `site FILE`; or they ask for help or the version
-/// (`docs/command-line.md`). The file is read first, of a script with all that it includes, each
-/// once, and then what the document type asks for, or the pattern, and last the scripts of a list. A reply is written on `out`: of `check` it is
-/// `yes`, or `no`, the length of a loose page that is not good, and its first 1,048,576 bytes, or
-/// `undecided` with the count that was passed; of `run` what the script prints; of `page` `valid`
-/// or `invalid`; of `match` as of `check`; of `grammar` the grammar of the loose pages; of `make` the script, or what `check`
-/// says of it; of `site` a line of JSON for each script; of help and the version their text. Every other ending is written on `err`, as
-/// `phpsa: KIND` with the name of the file or function that it is about, where there is one, or
-/// with a line that says what is wrong with the words; of a run that does not come to its end what
-/// it printed stands on `out`.
+/// FILE`, `page FILE`, `grammar FILE`, `make N`, `match FILE` and `site FILE`; or they ask for help
+/// or the version (`docs/command-line.md`). The file is read first, of a script with all that it
+/// includes, each once, and then what the document type asks for, or the pattern, and last the
+/// scripts of a list. A reply is written on `out`: of `check` it is `yes`, or `no`, the length of a
+/// loose page that is not good, and its first 1,048,576 bytes, or `undecided` with the count that
+/// was passed; of `run` what the script prints; of `page` `valid` or `invalid`; of `match` as of
+/// `check`; of `grammar` the grammar of the loose pages; of `make` the script, or what `check` says
+/// of it; of `site` a line of JSON for each script; of help and the version their text. Every other
+/// ending is written on `err`, as `phpsa: KIND` with the name of the file or function that it is
+/// about, where there is one, or with a line that says what is wrong with the words; of a run that
+/// does not come to its end what it printed stands on `out`.
 pub fn phpsa<F: Files, O: Sink, E: Sink>(
     alloc: Global,
     words: &Vec<String>,

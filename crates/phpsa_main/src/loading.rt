@@ -11,8 +11,8 @@ ghost use Rattle.phpsa_tasks.specs.Tasks.{root_of};
 ghost use Rattle.phpsa_tasks.specs.Views.{script_file_as};
 ghost use Rattle.phpsa_main.specs.Decided.{ReadsBy};
 
+use crate::script_by::ScriptBy;
 use document_types::DocumentType;
-use dtd_model::Dtd;
 use io_edge::{Files, root_for};
 use phpsa_tasks::ScriptFile;
 use phpsa_texts::{Refusal, definition_refusal, load_refusal};
@@ -47,13 +47,6 @@ pub(crate) fn load_script<F: Files>(
 {
     let root = root_for(alloc, file.root, file.name)?;
     load(alloc, files, root.as_str(), file.name, file.stubs)
-}
-
-/// A program, and the definition that its pages are held against.
-#[derive(Drop)]
-pub(crate) struct ScriptBy {
-    pub program: Program,
-    pub dtd: Dtd,
 }
 
 /// The program of the file, as `load_script` gives it, and the definition of the document type. The

@@ -190,8 +190,8 @@ pub record TellsPolicy (call : Call) (bytes : List ℕ) (status : Exit) : Type 0
   pub err : Gains call.err (policy_text cause)
 
 -- Words that ask for what the source tells all of are answered, a limit and want of memory aside, and exactly by what is so of it; where
--- nothing is found, so is the status; a program is not run where the file of its request stands for none, nor matched where that of a pattern
--- spells none, and why is told; words that ask for nothing are refused, and canonical ones never for that.
+-- nothing is found, so is the status; a program is not run where the file of its request stands for none, nor matched where that of a
+-- pattern spells none, and why is told; words that ask for nothing are refused, and canonical ones never for that.
 pub record IsAnswered (call : Call) (status : Exit) : Type 0 where
   pub answered : (task : Task) (subject : Subject task) → AsksFor call.words task → IsUndisturbed call
       → Holds call.files.content task subject → IsWithin call.files.content task subject

@@ -57,9 +57,9 @@ IsWanting status = Contains (WriteFault ∷ Memory ∷ []) status
 abbrev pub uncounted : List Exit
 uncounted = Script ∷ Missing ∷ ReadFault ∷ Input ∷ WriteFault ∷ Memory ∷ []
 
--- By a built-in definition, or where none is asked for, each name that a task needs is asked for once, but for the statuses above: those
--- of a program, with those of its stubs and of a request or a pattern; or the page, unless memory was wanting before. The other tasks read nothing; of a list, whose
--- scripts may share files, nothing is said here.
+-- By a built-in definition, or where none is asked for, each name that a task needs is asked for once, but for the statuses above: those of
+-- a program, with those of its stubs and of a request or a pattern; or the page, unless memory was wanting before. The other tasks read
+-- nothing; of a list, whose scripts may share files, nothing is said here.
 abbrev pub ReadsFor : Task → SourceCall → Exit → Type 0
 ReadsFor (script_check file document_type goal limit form choice) files status =
     IsBuiltIn document_type → Contains uncounted status ⊎ ReadsItsFiles files file

@@ -75,8 +75,8 @@ IsGrammarReply program status text =
     (IsGrammarText program text × (status ≡ Done))
     ⊎ ((count : ℕ) × HasManyItems program count × (status ≡ Undecided) × (text ≡ passed_text (passed.Items count)))
 
--- what each task replies of what it speaks of: a run, where it came to its end; of a list, by what came of the source while its scripts were
--- read; and nothing where nothing is asked for
+-- what each task replies of what it speaks of: a run, where it came to its end; of a list, by what came of the source while its scripts
+-- were read; and nothing where nothing is asked for
 abbrev pub IsReplyOf : SourceCall → (task : Task) → Subject task → Exit → List ℕ → Type 0
 IsReplyOf files (script_check file document_type goal limit form choice) subject status text =
     IsCheckReply choice goal subject.table subject.program limit form status text

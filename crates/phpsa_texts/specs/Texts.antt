@@ -59,8 +59,8 @@ yes_text = codes "yes" ++ 10 ∷ []
 abbrev pub no_text : ℕ → List ℕ → List ℕ
 no_text len front = codes "no" ++ 10 ∷ (codes "page " ++ decimal len ++ 10 ∷ (front ++ 10 ∷ []))
 
--- on `out`, where a count of sums or tags was passed, of derivations of at most this height, or of sentences of at most this length: the word
--- for which of both stands between
+-- on `out`, where a count of sums or tags was passed, of derivations of at most this height, or of sentences of at most this length: the
+-- word for which of both stands between
 abbrev pub sums_text : List ℕ → ℕ → List ℕ → ℕ → List ℕ
 sums_text kind count within bound = codes "undecided " ++ kind ++ codes " " ++ decimal count ++ within ++ decimal bound ++ 10 ∷ []
 
@@ -280,8 +280,8 @@ deep_text = number_text (codes "Deep") CALL_LIMIT
 abbrev pub policy_kind : List ℕ → List ℕ
 policy_kind kind = codes "Policy " ++ kind
 
--- on `err`, where a file spells no pattern that is taken: the place of what cannot stand there, from 0, its length, or the place of the first
--- bracket that is one too many
+-- on `err`, where a file spells no pattern that is taken: the place of what cannot stand there, from 0, its length, or the place of the
+-- first bracket that is one too many
 abbrev pub policy_text : PolicyRefusal → List ℕ
 policy_text (policy.NotPattern at) = number_text (policy_kind (codes "NotPattern")) at
 policy_text (policy.TooLong len) = number_text (policy_kind (codes "TooLong")) len

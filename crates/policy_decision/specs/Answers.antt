@@ -40,8 +40,8 @@ pub data HasManyItems (p : Pattern) (program : PlainProgram) (count : ℕ) : Typ
   by_pages : (grammar : Grammar) → IsPageGrammar program grammar
       → HasItems grammar.productions.items DerivativeStep grammar.start (form_of p) count → HasManyItems p program count
 
--- yes: each loose page fits; no: what is shown of one that does not; a stated count that is passed: of items, of derivatives of the pattern's
--- expression
+-- yes: each loose page fits; no: what is shown of one that does not; a stated count that is passed: of items, of derivatives of the
+-- pattern's expression
 abbrev pub IsPolicyAnswer : Pattern → PlainProgram → PolicyAnswer → Type 0
 IsPolicyAnswer p program answer.Yes = EachFits p program
 IsPolicyAnswer p program (answer.No shown) = IsShownMiss p program shown

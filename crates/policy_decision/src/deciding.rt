@@ -50,10 +50,10 @@ fn decide_pages(
     requires form { IsExpr pattern.arena pattern.root }
     requires grammar { IsPageGrammar (program_of program.now) grammar.now }
     requires texts { TextsFit (program_of program.now) }
-    ensures answer { (p : Plain) → IsForm pattern.arena pattern.root p
-        → IfOk result (IsPolicyAnswer p (program_of program.now)) }
-    ensures sound { (p : Plain) → IsForm pattern.arena pattern.root p
-        → IfOk result (SaysOfRuns p (program_of program.now)) }
+    ensures answer { IfOk result (λ answer. (p : Plain) → IsForm pattern.arena pattern.root p
+        → IsPolicyAnswer p (program_of program.now) answer) }
+    ensures sound { IfOk result (λ answer. (p : Plain) → IsForm pattern.arena pattern.root p
+        → SaysOfRuns p (program_of program.now) answer) }
 {
     let _ = program;
     fitting_loose_pages_make_fitting_runs();
@@ -76,10 +76,10 @@ pub fn decide_policy(
     pattern: Pattern,
 ) -> Result<PolicyAnswer, MatchRefusal>
     requires { IsExpr pattern.arena pattern.root }
-    ensures answer { (p : Plain) → IsForm pattern.arena pattern.root p
-        → IfOk result (IsPolicyAnswer p (program_of program.now)) }
-    ensures sound { (p : Plain) → IsForm pattern.arena pattern.root p
-        → IfOk result (SaysOfRuns p (program_of program.now)) }
+    ensures answer { IfOk result (λ answer. (p : Plain) → IsForm pattern.arena pattern.root p
+        → IsPolicyAnswer p (program_of program.now) answer) }
+    ensures sound { IfOk result (λ answer. (p : Plain) → IsForm pattern.arena pattern.root p
+        → SaysOfRuns p (program_of program.now) answer) }
     ensures refusal { IfErr result (IsMatchRefusal (program_of program.now)) }
 {
     match loose_grammar(alloc, program) {

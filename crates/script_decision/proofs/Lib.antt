@@ -2,5 +2,5 @@ mod ReaderLemmas
 mod SaysLemmas
 pub mod ShowLemmas
 pub mod PageLemmas
-mod ShownLemmas
+pub mod ShownLemmas
 mod SmallDefinition

@@ -37,7 +37,8 @@ same_bytes (a ∷ u) (b ∷ v) e =
 
 module _ (program : PlainProgram) where
   module _ (productions : List Production) (start : nt.Nt) (are : DerivePages program productions start) where
-    texts_are_pages : (page : List ℕ) → DerivesText productions (Nt start) page ↔ IsLoosePage program page
+    -- its texts are the loose pages
+    pub texts_are_pages : (page : List ℕ) → DerivesText productions (Nt start) page ↔ IsLoosePage program page
     texts_are_pages page = (
       λ d. let h = (are (map OfByte page)).0 d in subst (λ (p : List ℕ). IsLoosePage program p) (sym (same_bytes page h.0 h.1)) h.2,
       λ loose. (are (map OfByte page)).1 (page, refl, loose),

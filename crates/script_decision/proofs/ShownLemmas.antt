@@ -20,7 +20,7 @@ abbrev pub ShowsEach : Derivation → ShownPage → Type 0
 ShowsEach derivation shown = (ps : List Production) (left : nt.Nt) (w : List Letter) → IsDerivation ps derivation.nodes.nodes.items left w → Shows (bytes_in w) shown
 
 -- a text has its own bytes
-own_bytes : (text : List ℕ) → bytes_in (map OfByte text) ≡ text
+pub own_bytes : (text : List ℕ) → bytes_in (map OfByte text) ≡ text
 own_bytes [] = refl
 own_bytes (b ∷ text) = ap (λ (bs : List ℕ). b ∷ bs) (own_bytes text)
 

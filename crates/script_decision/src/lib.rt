@@ -2,7 +2,7 @@
 //! Promise: `check` says `Yes` only where each loose page is good, `No` only with a derivation of
 //! one that is not, a limit only where it is passed (`answer`: `IsAnswerOf` of specs/Decision);
 //! after `Yes` each run for an admitted request that ends prints a good page (`sound`).
-//! Used by: phpsa_tasks, phpsa_main.
+//! Used by: shortest_decision, policy_decision, phpsa_tasks, phpsa_main.
 #![tactic(auto)]
 
 mod answer;

@@ -1,21 +1,17 @@
 -- What is found of the pages of a grammar is an answer for the program.
-use Rattle.std.proofs.Common.{◌≡◌, ◌<◌, ◌↔◌, ℕ, List, [], ◌∷◌, map, length, refl, sym, ap, subst, Result, Ok, Err, IfOk}
-use Rattle.text_base.specs.declared.letter.Letter.{Letter}
+use Rattle.std.proofs.Common.{◌<◌, ℕ, List, map, subst, Result, Ok, Err, IfOk}
 use Rattle.text_base.specs.declared.letter.Letter.TheVariants.{OfByte}
 use Rattle.text_base.specs.declared.memory.NoMemory.{NoMemory}
 use Rattle.text_base.specs.declared.page_token.PageToken.{PageToken}
-use Rattle.text_base.specs.declared.numbers.Nt as nt
 use Rattle.cfg_grammar.specs.declared.symbol.Symbol.TheVariants.{Nt}
-use Rattle.cfg_grammar.specs.declared.production.Production.{Production}
 use Rattle.cfg_grammar.specs.declared.grammar.Grammar.{Grammar}
 use Rattle.derivations.specs.declared.derivation.Derivation.{Derivation}
-use Rattle.derivations.specs.Stands.{IsDerivation}
-use Rattle.derivations.specs.Bytes.{bytes_in}
 use Rattle.derivations.specs.Nodes.{most}
 use Rattle.dtd_model.specs.Table.{Table}
 use Rattle.echoing_machine.specs.Echoes.{EchoStep, EchoEnd}
 use Rattle.page_reader.specs.States.{first_state, tokens_at, tokens_behind}
 use Rattle.merged_reader.specs.States.{merged_next}
+use Rattle.fst_core.specs.Items.{HasItems}
 use Rattle.fst_core.specs.Outputs.{DerivesText}
 use Rattle.page_decision.specs.declared.goal.Goal.{Goal}
 use Rattle.page_decision.specs.Goals.{IsGood}
@@ -24,34 +20,20 @@ use Rattle.page_decision.specs.TextVerdicts.{IsDerivationOf}
 use Rattle.program_rules.specs.Lawful.{IsLawful}
 use Rattle.flow_runs.specs.Texts.{TextsFit}
 use Rattle.script_meaning.specs.Programs.{PlainProgram}
-use Rattle.loose_grammar.specs.Pages.{IsLoosePage, IsPageGrammar, DerivePages}
+use Rattle.loose_grammar.specs.declared.refusal.TheConstants.{ITEM_LIMIT}
+use Rattle.loose_grammar.specs.Pages.{IsLoosePage, IsPageGrammar}
 use Rattle.script_decision.specs.Answers.{EachIsGood, RunsAreGood}
 use Rattle.script_decision.specs.Decision.{IsReaderImage}
 use Rattle.script_decision.specs.declared.showing_pages.ShownPage.{ShownPage}
 use Rattle.script_decision.specs.Shows.{Shows}
+use Rattle.script_decision.proofs.PageLemmas.{texts_are_pages}
+use Rattle.script_decision.proofs.ShownLemmas.{ShowsEach, own_bytes}
 use Rattle.short_sentences.specs.declared.answer.ShortAnswer.{ShortAnswer}
 use Rattle.short_sentences.specs.declared.answer.ShortAnswer.TheVariants.{Whole, Shortest, Pairs, Tags}
 use Rattle.short_page.specs.ShortPages.{AreShorterGood, IsShortestBad, HasShortSums, HasShortTags, HasManyShortSums, HasManyShortTags, IsShortPageAnswer}
 use Rattle.shortest_decision.specs.declared.answer.ShortestAnswer.{ShortestAnswer}
 use Rattle.shortest_decision.specs.declared.answer.ShortestAnswer.TheVariants as answer
-use Rattle.shortest_decision.specs.Answers.{IsShownShortest, IsShortestAnswer, SaysOfRuns}
-
-same_bytes : (u v : List ℕ) → map OfByte u ≡ map OfByte v → u ≡ v
-same_bytes [] [] e = refl
-same_bytes [] (b ∷ v) e = cc
-same_bytes (a ∷ u) [] e = cc
-same_bytes (a ∷ u) (b ∷ v) e =
-    let rest : u ≡ v = same_bytes u v (cc) in
-    let first : a ≡ b = cc in
-    cc
-
-own_bytes : (text : List ℕ) → bytes_in (map OfByte text) ≡ text
-own_bytes [] = refl
-own_bytes (b ∷ text) = ap (λ (bs : List ℕ). b ∷ bs) (own_bytes text)
-
--- this is shown of the bytes of each sentence that the derivation is one of
-abbrev pub ShowsEach : Derivation → ShownPage → Type 0
-ShowsEach derivation shown = (ps : List Production) (left : nt.Nt) (w : List Letter) → IsDerivation ps derivation.nodes.nodes.items left w → Shows (bytes_in w) shown
+use Rattle.shortest_decision.specs.Answers.{IsShownShortest, by_pages, HasManyItems, IsShortestAnswer, SaysOfRuns}
 
 -- where each loose page is good, so are runs
 abbrev pub RunsFollow : Type 0
@@ -72,10 +54,10 @@ module _ (goal : Goal) (table : Table) (program : PlainProgram) (grammar : Gramm
   IsImage = IsMachineImage grammar first_state (EchoStep (merged_next table) (tokens_at table) (tokens_behind table)) (EchoEnd (merged_next table) (tokens_at table) (tokens_behind table))
 
   page_loose : (page : List ℕ) → IsPage page → IsLoosePage program page
-  page_loose page d = let h = (is_grammar.pages (map OfByte page)).0 d in subst (λ (p : List ℕ). IsLoosePage program p) (sym (same_bytes page h.0 h.1)) h.2
+  page_loose page d = (texts_are_pages program grammar.productions.items grammar.start is_grammar.pages page).0 d
 
   loose_page : (page : List ℕ) → IsLoosePage program page → IsPage page
-  loose_page page loose = (is_grammar.pages (map OfByte page)).1 (page, refl, loose)
+  loose_page page loose = (texts_are_pages program grammar.productions.items grammar.start is_grammar.pages page).1 loose
 
   of_image : (image : Grammar) → IsImage image → IsReaderImage table program image
   of_image image of_grammar = record { grammar = grammar; of_program = is_grammar; of_grammar = of_grammar }
@@ -118,6 +100,12 @@ module _ (goal : Goal) (table : Table) (program : PlainProgram) (grammar : Gramm
   pub many_tags : (asked : Goal) (count l : ℕ) → HasManyShortTags table IsPage IsImage asked count l → HasManyShortTags table (IsLoosePage program) (IsReaderImage table program) asked count l
   many_tags Goal.Valid count l h = (h.0, h.1, tags_wider _ _ Goal.Valid count l h.2)
   many_tags Goal.Nested count l h = tags_wider _ _ Goal.Nested count l h
+
+-- a count of items of the pages' image
+pub many_items : (table : Table) (program : PlainProgram) (grammar : Grammar) (count : ℕ) → IsPageGrammar program grammar
+    → (ITEM_LIMIT < count) × HasItems grammar.productions.items (EchoStep (merged_next table) (tokens_at table) (tokens_behind table)) grammar.start first_state count
+    → (ITEM_LIMIT < count) × HasManyItems table program count
+many_items table program grammar count is (over, has) = (over, by_pages grammar is has)
 
 module _ (law : RunsFollow) (goal : Goal) (table : Table) (program : PlainProgram) (lawful : IsLawful program) (fit : TextsFit program) (limit : ℕ) where
   pub says : (a : ShortestAnswer) → IsShortestAnswer goal table program limit a → SaysOfRuns goal table program a

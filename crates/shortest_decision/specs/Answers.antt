@@ -21,8 +21,8 @@ use Rattle.short_page.specs.ShortPages.{HasManyShortSums, HasManyShortTags}
 use Rattle.shortest_decision.specs.declared.answer.ShortestAnswer.{ShortestAnswer}
 use Rattle.shortest_decision.specs.declared.answer.ShortestAnswer.TheVariants as answer
 
--- this is shown of a loose page that is not good, and each loose page that has fewer bytes than that one, and fewer than the largest u64, is
--- good
+-- this is shown of a loose page that is not good, and each loose page that has fewer bytes than that one, and fewer than the largest u64,
+-- is good
 pub record IsShownShortest (goal : Goal) (table : Table) (program : PlainProgram) (shown : ShownPage) : Type 0 where
   pub page : List ℕ
   pub loose : IsLoosePage program page

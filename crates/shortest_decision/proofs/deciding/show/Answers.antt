@@ -5,7 +5,7 @@ use Rattle.shortest_decision.proofs.deciding.show.Goals.{in-Whole, in-Shortest+i
 use Rattle.shortest_decision.proofs.deciding.show.Goals as goal
 
 pub returns : goal.returns
-returns c asked table program grammar limit is_grammar is = elim c.match-answer.branch [
+returns c asked table program grammar limit is_grammar is = elim c.match-found.branch [
   | in-Whole w ↦ subst (IsShortestAnswer asked table program limit) (sym w.result-is) (each_good asked table program grammar is_grammar (subst (IsFound asked table grammar limit) w.in-Whole.is is))
   | in-Shortest+in_ok-show_page-in-Shortest w ↦ subst (IsShortestAnswer asked table program limit) (sym w.result-is)
       (shown_shortest asked table program grammar is_grammar _ _ w.in_ok-show_page-in-Shortest.ensures (subst (IsFound asked table grammar limit) w.in-Shortest.is is))
