@@ -98,16 +98,16 @@ module _ (t : FlowTables) (are : AreTables t) where
   IsList n = (f : Form SetName) → Contains (lists_of t n) f ↔ Rows n f
 
   by_members : (n : SetName) → ((b : Aspect) (p x : ℕ) → n ≡ Value b (Join p x) → ⊥) → (f : Form SetName) → (Contains (lists_of t n) f → Contains (forms at flow n) f) → (Contains (forms at flow n) f → Contains (lists_of t n) f) → Contains (lists_of t n) f ↔ Rows n f
-  by_members n no f there back = (
+  by_members n isnt f there back = (
     λ has. RowBy.listed n f (there has),
     λ row. elim (row_is n f row) [
       | inl has ↦ back has
-      | inr j ↦ absurd (no j.aspect j.point j.slot j.name)
+      | inr j ↦ absurd (isnt j.aspect j.point j.slot j.name)
     ],
   )
 
   by_equal : (n : SetName) → ((b : Aspect) (p x : ℕ) → n ≡ Value b (Join p x) → ⊥) → lists_of t n ≡ forms at flow n → (f : Form SetName) → Contains (lists_of t n) f ↔ Rows n f
-  by_equal n no same f = by_members n no f (λ has. subst (λ (fs : Forms). Contains fs f) same has) (λ has. subst (λ (fs : Forms). Contains fs f) (sym same) has)
+  by_equal n isnt same f = by_members n isnt f (λ has. subst (λ (fs : Forms). Contains fs f) same has) (λ has. subst (λ (fs : Forms). Contains fs f) (sym same) has)
 
   -- of a set that belongs to a point
   point_lists : (n : SetName) (p : ℕ) → lists_from t n (Some p) ≡ forms_there (forms_from Told (functions_of t) at n) (point_at flow p)

@@ -123,7 +123,7 @@ module _ (asks : SetName → Type 0) (lists : Lists) (given : GivenTexts) (start
   stands_first =
       let d = begun SetName closed given.grammar.count given.grammar.below given.no_token empty.draft is_begun given.grammar.start_below given.integer_below in
       begins.stands [] [] closed
-      (subst (λ (ns : List SetName). IsDraft [] [] ns empty.numbers.items closed empty.draft) (sym no_names) (subst (λ (ns : List ℕ). IsDraft [] [] [] ns closed empty.draft) (sym no_numbers) d))
+      (subst (λ (ns : List SetName). IsDraft {N = SetName} [] [] ns empty.numbers.items closed empty.draft) (sym no_names) (subst (λ (ns : List ℕ). IsDraft {N = SetName} [] [] [] ns closed empty.draft) (sym no_numbers) d))
 
   module _ (listed : IsListed asks lists begun_work work (length work.names.keys)) where
     abbrev names : List SetName

@@ -1,5 +1,6 @@
 -- The table of the names that are listed has the sets of the table of versions, and the same operations in cycles.
-use Rattle.std.proofs.Common.{◌≡◌, ◌↔◌, ⊤, ℕ, false, List, [], ◌∷◌, refl, sym, subst, Contains}
+use Rattle.std.proofs.Common.{◌≡◌, ◌↔◌, ℕ, false, List, [], ◌∷◌, refl, sym, subst, Contains}
+use Rattle.std.specs.Prelude.{⊤}
 use Rattle.op_system.specs.declared.op.Op.{Op}
 use Rattle.flow_code.specs.Points.{PlainFlow}
 use Rattle.least_sets.specs.Forms.{Form, text_form, same_form, join_form, before_form, request_form, integer_form, apply_form, yes_form, where_form}
