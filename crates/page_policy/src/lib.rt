@@ -2,7 +2,7 @@
 //! Promise: `read_policy` answers the one pattern that a file spells (`Spells` of specs/Grammar), as
 //! the expression of the texts that fit it (`Fits` of specs/Patterns), or a refusal with its cause
 //! (`IsCause` of specs/Refusals).
-//! Used by: policy_decision, phpsa_texts, phpsa_tasks, phpsa_main, base_tests.
+//! Used by: script_decision, phpsa_texts, phpsa_tasks, phpsa_main, base_tests.
 #![tactic(auto)]
 
 mod building;

@@ -10,8 +10,8 @@ use Rattle.page_policy.specs.Forms.{IsForm}
 use Rattle.page_policy.specs.Patterns.{Pattern}
 use Rattle.page_policy.specs.declared.refusal.PolicyRefusal.{PolicyRefusal}
 use Rattle.page_policy.specs.declared.pattern.Pattern.{Pattern as Held}
-use Rattle.policy_decision.specs.Answers.{IsPolicyAnswer, SaysOfRuns}
-use Rattle.policy_decision.specs.declared.answer.PolicyAnswer.{PolicyAnswer}
+use Rattle.script_decision.specs.PolicyAnswers.{IsPolicyAnswer, SaysOfRuns}
+use Rattle.script_decision.specs.declared.policy_answer.PolicyAnswer.{PolicyAnswer}
 use Rattle.script_meaning.specs.Programs.{PlainProgram}
 use Rattle.program_files.specs.Source.{SourceCall, source_call}
 use Rattle.program_files.specs.declared.refusal.LoadRefusal.{LoadRefusal}

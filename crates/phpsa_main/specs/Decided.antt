@@ -11,7 +11,7 @@ use Rattle.program_lowering.specs.Short.{HasLongText}
 use Rattle.document_types.specs.DocumentTypes.{NamedType, HasTable, IsBuiltIn}
 use Rattle.script_decision.specs.Decision.{HasLargeModels}
 use Rattle.script_decision.specs.declared.shown.ShownAnswer.{ShownAnswer}
-use Rattle.shortest_decision.specs.declared.answer.ShortestAnswer.{ShortestAnswer}
+use Rattle.script_decision.specs.declared.shortest_answer.ShortestAnswer.{ShortestAnswer}
 use Rattle.phpsa_texts.specs.declared.exit.Exit.TheVariants.{Missing, ReadFault, Dtd, Input}
 use Rattle.phpsa_texts.specs.declared.answers.AnswerForm.{AnswerForm}
 use Rattle.phpsa_texts.specs.declared.message.Message.{Message}

@@ -4,7 +4,7 @@ use Rattle.io_edge.specs.Counts.{one_more}
 use Rattle.page_policy.specs.Patterns.{Pattern}
 use Rattle.page_policy.specs.Forms.{IsForm}
 use Rattle.page_policy.specs.declared.pattern.Pattern.{Pattern as Held}
-use Rattle.policy_decision.specs.declared.answer.PolicyAnswer.{PolicyAnswer}
+use Rattle.script_decision.specs.declared.policy_answer.PolicyAnswer.{PolicyAnswer}
 use Rattle.program_files.specs.Source.{SourceCall}
 use Rattle.script_meaning.specs.Programs.{PlainProgram}
 use Rattle.program_lowering.specs.Short.{HasLongText}

@@ -22,8 +22,8 @@ use phpsa_texts::{
     AnswerForm, Message, PassedCount, Refusal, file_refusal, load_refusal, long_text_refusal,
     many_states_message, no_message, passed_message, policy_refusal, yes_message,
 };
-use policy_decision::{MatchRefusal, PolicyAnswer, decide_policy};
 use program_rules::Program;
+use script_decision::{MatchRefusal, PolicyAnswer, decide_policy};
 use std::alloc::Global;
 use text_base::NoMemory;
 

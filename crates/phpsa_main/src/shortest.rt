@@ -24,8 +24,7 @@ use phpsa_texts::{
     states_refusal, yes_message,
 };
 use program_rules::Program;
-use script_decision::CheckRefusal;
-use shortest_decision::{ShortestAnswer, check_shortest};
+use script_decision::{CheckRefusal, ShortestAnswer, check_shortest};
 use std::alloc::Global;
 use text_base::NoMemory;
 

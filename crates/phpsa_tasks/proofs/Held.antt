@@ -27,9 +27,9 @@ use Rattle.page_policy.specs.declared.refusal.PolicyRefusal.{PolicyRefusal}
 use Rattle.page_policy.specs.declared.refusal.PolicyRefusal.TheVariants as policy
 use Rattle.page_policy.specs.declared.refusal.TheConstants.{POLICY_LIMIT}
 use Rattle.page_policy.proofs.SpellLemmas.{spell_one}
-use Rattle.policy_decision.specs.Answers.{IsPolicyAnswer}
-use Rattle.policy_decision.specs.declared.answer.PolicyAnswer.{PolicyAnswer}
-use Rattle.policy_decision.specs.declared.answer.PolicyAnswer.TheVariants as matched
+use Rattle.script_decision.specs.PolicyAnswers.{IsPolicyAnswer}
+use Rattle.script_decision.specs.declared.policy_answer.PolicyAnswer.{PolicyAnswer}
+use Rattle.script_decision.specs.declared.policy_answer.PolicyAnswer.TheVariants as matched
 use Rattle.request_reading.specs.Outcome.{Outcome, not_json, not_request, not_admitted, stands_for, outcome}
 use Rattle.request_reading.specs.Causes.{IsCause}
 use Rattle.request_reading.specs.declared.refusal.RequestRefusal.{RequestRefusal}
@@ -45,8 +45,8 @@ use Rattle.program_lowering.specs.Short.{HasLongText}
 use Rattle.script_decision.specs.Decision.{HasLargeModels}
 use Rattle.script_decision.specs.declared.shown.ShownAnswer.{ShownAnswer}
 use Rattle.script_decision.specs.Shown.{IsShownAnswer}
-use Rattle.shortest_decision.specs.Answers.{IsShortestAnswer}
-use Rattle.shortest_decision.specs.declared.answer.ShortestAnswer.{ShortestAnswer}
+use Rattle.script_decision.specs.ShortestAnswers.{IsShortestAnswer}
+use Rattle.script_decision.specs.declared.shortest_answer.ShortestAnswer.{ShortestAnswer}
 use Rattle.phpsa_texts.specs.declared.exit.Exit.{Exit}
 use Rattle.phpsa_texts.specs.declared.exit.Exit.TheVariants.{Input, Memory}
 use Rattle.phpsa_texts.specs.Statuses.{judgment_status, load_status, file_status, request_status, definition_status, policy_status, list_status, site_status}

@@ -12,8 +12,8 @@ use Rattle.request_reading.specs.declared.refusal.RequestRefusal.{RequestRefusal
 use Rattle.request_reading.specs.declared.refusal.RequestRefusal.TheVariants as asking
 use Rattle.page_policy.specs.declared.refusal.PolicyRefusal.{PolicyRefusal}
 use Rattle.page_policy.specs.declared.refusal.PolicyRefusal.TheVariants as policy
-use Rattle.policy_decision.specs.declared.answer.PolicyAnswer.{PolicyAnswer}
-use Rattle.policy_decision.specs.declared.answer.PolicyAnswer.TheVariants as matched
+use Rattle.script_decision.specs.declared.policy_answer.PolicyAnswer.{PolicyAnswer}
+use Rattle.script_decision.specs.declared.policy_answer.PolicyAnswer.TheVariants as matched
 use Rattle.site_check.specs.declared.list_refusal.ListRefusal.{ListRefusal}
 use Rattle.site_check.specs.declared.list_refusal.ListRefusal.TheVariants as listing
 use Rattle.dtd_reader.specs.declared.refusal.DtdRefusal.{DtdRefusal}
@@ -22,7 +22,7 @@ use Rattle.document_types.specs.DocumentTypes.{NamedType, strict_type}
 use Rattle.document_types.specs.declared.refusal.DefinitionRefusal.{DefinitionRefusal}
 use Rattle.document_types.specs.declared.refusal.DefinitionRefusal.TheVariants as definition
 use Rattle.script_decision.specs.declared.shown.ShownAnswer.{ShownAnswer}
-use Rattle.shortest_decision.specs.declared.answer.ShortestAnswer.{ShortestAnswer}
+use Rattle.script_decision.specs.declared.shortest_answer.ShortestAnswer.{ShortestAnswer}
 use Rattle.command_words.specs.Asked.{Asked, help, version, check, run, page, grammar, make, site, match_pattern}
 use Rattle.phpsa_texts.specs.declared.exit.Exit.{Exit}
 use Rattle.phpsa_texts.specs.declared.exit.Exit.TheVariants.{Done, Usage}

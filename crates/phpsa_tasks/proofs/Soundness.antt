@@ -12,12 +12,12 @@ use Rattle.page_decision.specs.declared.goal.Goal.{Goal}
 use Rattle.script_decision.specs.Answers.{RunsAreGood}
 use Rattle.script_decision.specs.declared.shown.ShownAnswer.{ShownAnswer}
 use Rattle.script_decision.specs.Shown.{ShownSaysOfRuns}
-use Rattle.shortest_decision.specs.Answers.{SaysOfRuns as ShortestSays}
-use Rattle.shortest_decision.specs.declared.answer.ShortestAnswer.{ShortestAnswer}
+use Rattle.script_decision.specs.ShortestAnswers.{SaysOfRuns as ShortestSays}
+use Rattle.script_decision.specs.declared.shortest_answer.ShortestAnswer.{ShortestAnswer}
 use Rattle.page_policy.specs.Patterns.{Pattern}
-use Rattle.policy_decision.specs.Answers.{RunsFit, SaysOfRuns}
-use Rattle.policy_decision.specs.declared.answer.PolicyAnswer.{PolicyAnswer}
-use Rattle.policy_decision.specs.declared.answer.PolicyAnswer.TheVariants as matched
+use Rattle.script_decision.specs.PolicyAnswers.{RunsFit, SaysOfRuns}
+use Rattle.script_decision.specs.declared.policy_answer.PolicyAnswer.{PolicyAnswer}
+use Rattle.script_decision.specs.declared.policy_answer.PolicyAnswer.TheVariants as matched
 use Rattle.phpsa_tasks.specs.PolicyAnswers.{match_status}
 use Rattle.program_files.specs.Source.{SourceCall}
 use Rattle.program_loader.specs.Told.{IsLoaded}

@@ -16,8 +16,8 @@ use Rattle.loose_grammar.specs.Pages.{IsLoosePage}
 use Rattle.script_decision.specs.Answers.{EachIsGood}
 use Rattle.script_decision.specs.declared.shown.ShownAnswer.{ShownAnswer}
 use Rattle.script_decision.specs.Shown.{IsShownAnswer}
-use Rattle.shortest_decision.specs.Answers.{IsShortestAnswer}
-use Rattle.shortest_decision.specs.declared.answer.ShortestAnswer.{ShortestAnswer}
+use Rattle.script_decision.specs.ShortestAnswers.{IsShortestAnswer}
+use Rattle.script_decision.specs.declared.shortest_answer.ShortestAnswer.{ShortestAnswer}
 use Rattle.script_maker.specs.Made.{IsSize}
 use Rattle.command_words.specs.Asked.{Asked, AsksNothing}
 use Rattle.command_words.specs.Canonical.{IsCanonical}
@@ -28,8 +28,8 @@ use Rattle.phpsa_texts.specs.Texts.{request_text, policy_text}
 use Rattle.page_policy.specs.Patterns.{Pattern, Fits}
 use Rattle.page_policy.specs.Refusals.{IsCause}
 use Rattle.page_policy.specs.declared.refusal.PolicyRefusal.{PolicyRefusal}
-use Rattle.policy_decision.specs.Answers.{EachFits, IsPolicyAnswer}
-use Rattle.policy_decision.specs.declared.answer.PolicyAnswer.{PolicyAnswer}
+use Rattle.script_decision.specs.PolicyAnswers.{EachFits, IsPolicyAnswer}
+use Rattle.script_decision.specs.declared.policy_answer.PolicyAnswer.{PolicyAnswer}
 use Rattle.phpsa_tasks.specs.Tasks.{ScriptFile, listed, Task, script_check, page_check, script_making, made_check, script_run, grammar_making, list_check, script_match, help_telling, version_telling, usage, AsksFor}
 use Rattle.command_words.specs.declared.values.TheConstants.{PAIR_LIMIT}
 use Rattle.phpsa_tasks.specs.declared.choice.PageChoice.{PageChoice}

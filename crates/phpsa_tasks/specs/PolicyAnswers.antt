@@ -2,9 +2,9 @@
 use Rattle.std.specs.Prelude.{ℕ, List}
 use Rattle.page_policy.specs.Patterns.{Pattern}
 use Rattle.script_meaning.specs.Programs.{PlainProgram}
-use Rattle.policy_decision.specs.Answers.{IsPolicyAnswer, SaysOfRuns}
-use Rattle.policy_decision.specs.declared.answer.PolicyAnswer.{PolicyAnswer}
-use Rattle.policy_decision.specs.declared.answer.PolicyAnswer.TheVariants as policy
+use Rattle.script_decision.specs.PolicyAnswers.{IsPolicyAnswer, SaysOfRuns}
+use Rattle.script_decision.specs.declared.policy_answer.PolicyAnswer.{PolicyAnswer}
+use Rattle.script_decision.specs.declared.policy_answer.PolicyAnswer.TheVariants as policy
 use Rattle.phpsa_texts.specs.declared.exit.Exit.{Exit}
 use Rattle.phpsa_texts.specs.declared.exit.Exit.TheVariants.{Done, No, Undecided}
 use Rattle.phpsa_texts.specs.declared.answers.PassedCount.TheVariants as passed

@@ -28,7 +28,7 @@ use Rattle.command_words.specs.declared.values.TheConstants.{PAIR_LIMIT}
 use Rattle.phpsa_tasks.specs.Tasks.{Task, script_check, page_check, script_making, made_check, script_run, grammar_making, list_check, script_match, help_telling, version_telling, usage}
 use Rattle.phpsa_tasks.specs.Subjects.{ProgramFor, Subject, Finds}
 use Rattle.phpsa_tasks.specs.ScriptAnswers.{conclusion_of, answer_status, IsAnswer, IsCheckReply}
-use Rattle.policy_decision.specs.declared.answer.PolicyAnswer.{PolicyAnswer}
+use Rattle.script_decision.specs.declared.policy_answer.PolicyAnswer.{PolicyAnswer}
 use Rattle.phpsa_tasks.specs.PolicyAnswers.{match_status, match_text, IsMatch}
 use Rattle.phpsa_tasks.specs.Sites.{AreLinesOf}
 

@@ -5,9 +5,9 @@ use Rattle.dtd_model.specs.Table.{Table}
 use Rattle.page_decision.specs.declared.goal.Goal.{Goal}
 use Rattle.script_decision.specs.declared.shown.ShownAnswer.{ShownAnswer}
 use Rattle.script_decision.specs.Shown.{IsShownAnswer, ShownSaysOfRuns}
-use Rattle.shortest_decision.specs.Answers.{IsShortestAnswer, SaysOfRuns}
-use Rattle.shortest_decision.specs.declared.answer.ShortestAnswer.{ShortestAnswer}
-use Rattle.shortest_decision.specs.declared.answer.ShortestAnswer.TheVariants as short
+use Rattle.script_decision.specs.ShortestAnswers.{IsShortestAnswer, SaysOfRuns}
+use Rattle.script_decision.specs.declared.shortest_answer.ShortestAnswer.{ShortestAnswer}
+use Rattle.script_decision.specs.declared.shortest_answer.ShortestAnswer.TheVariants as short
 use Rattle.phpsa_texts.specs.declared.exit.Exit.{Exit}
 use Rattle.phpsa_texts.specs.declared.exit.Exit.TheVariants.{Done, No, Undecided}
 use Rattle.phpsa_texts.specs.declared.answers.AnswerForm.{AnswerForm}

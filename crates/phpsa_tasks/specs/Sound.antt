@@ -6,7 +6,7 @@ use Rattle.script_meaning.specs.Runs.{Ended}
 use Rattle.page_model.specs.Valid.{Valid}
 use Rattle.page_decision.specs.declared.goal.Goal.{Goal}
 use Rattle.script_decision.specs.Answers.{RunsAreGood}
-use Rattle.policy_decision.specs.Answers.{RunsFit}
+use Rattle.script_decision.specs.PolicyAnswers.{RunsFit}
 use Rattle.program_loader.specs.Told.{IsLoaded}
 use Rattle.script_maker.specs.Made.{IsSize}
 use Rattle.site_check.specs.Listed.{names_in}

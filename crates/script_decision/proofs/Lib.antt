@@ -4,3 +4,5 @@ pub mod ShowLemmas
 pub mod PageLemmas
 pub mod ShownLemmas
 mod SmallDefinition
+pub mod PolicyLemmas
+pub mod ShortestLemmas

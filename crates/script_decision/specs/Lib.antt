@@ -5,3 +5,5 @@ pub mod Searches
 pub mod Steps
 pub mod Shown
 pub mod EchoLaws
+pub mod PolicyAnswers
+pub mod ShortestAnswers

@@ -4,7 +4,7 @@ ghost use Rattle.page_policy.specs.Patterns.{Pattern as Plain};
 ghost use Rattle.script_meaning.specs.Programs.{PlainProgram};
 ghost use Rattle.program_rules.specs.Lawful.{IsLawful};
 ghost use Rattle.flow_runs.specs.Texts.{TextsFit};
-ghost use Rattle.policy_decision.specs.Answers.{EachFits, RunsFit};
+ghost use Rattle.script_decision.specs.PolicyAnswers.{EachFits, RunsFit};
 
 use loose_soundness::run_laws::ended_runs_print_loose_pages;
 

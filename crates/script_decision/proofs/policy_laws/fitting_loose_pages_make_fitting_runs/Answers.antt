@@ -1,5 +1,5 @@
 use Rattle.script_meaning.specs.Meaning.{meaning}
-use Rattle.policy_decision.proofs.laws.fitting_loose_pages_make_fitting_runs.Goals as goal
+use Rattle.script_decision.proofs.policy_laws.fitting_loose_pages_make_fitting_runs.Goals as goal
 
 pub returns : goal.returns
 returns c p program lawful texts each request units admitted ended =

@@ -31,9 +31,9 @@ use Rattle.script_decision.proofs.ShownLemmas.{ShowsEach, own_bytes}
 use Rattle.short_sentences.specs.declared.answer.ShortAnswer.{ShortAnswer}
 use Rattle.short_sentences.specs.declared.answer.ShortAnswer.TheVariants.{Whole, Shortest, Pairs, Tags}
 use Rattle.short_page.specs.ShortPages.{AreShorterGood, IsShortestBad, HasShortSums, HasShortTags, HasManyShortSums, HasManyShortTags, IsShortPageAnswer}
-use Rattle.shortest_decision.specs.declared.answer.ShortestAnswer.{ShortestAnswer}
-use Rattle.shortest_decision.specs.declared.answer.ShortestAnswer.TheVariants as answer
-use Rattle.shortest_decision.specs.Answers.{IsShownShortest, by_pages, HasManyItems, IsShortestAnswer, SaysOfRuns}
+use Rattle.script_decision.specs.declared.shortest_answer.ShortestAnswer.{ShortestAnswer}
+use Rattle.script_decision.specs.declared.shortest_answer.ShortestAnswer.TheVariants as answer
+use Rattle.script_decision.specs.ShortestAnswers.{IsShownShortest, by_pages, HasManyItems, IsShortestAnswer, SaysOfRuns}
 
 -- where each loose page is good, so are runs
 abbrev pub RunsFollow : Type 0

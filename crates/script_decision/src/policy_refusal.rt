@@ -1,7 +1,7 @@
 //! Why a program has no answer.
 
 ghost use Rattle.std.specs.Prelude.{◌≡◌};
-ghost use Rattle.policy_decision.specs.declared.refusal.MatchRefusal.TheVariants.{Memory};
+ghost use Rattle.script_decision.specs.declared.policy_refusal.MatchRefusal.TheVariants.{Memory};
 
 use text_base::NoMemory;
 use thiserror::Error;

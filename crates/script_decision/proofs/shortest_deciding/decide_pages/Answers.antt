@@ -2,8 +2,8 @@ use Rattle.std.proofs.Common.{IfOk}
 use Rattle.std.proofs.lemmas.Result.{IfOk-weaker}
 use Rattle.dtd_model.specs.TableOf.{table_of}
 use Rattle.program_rules.specs.View.{program_of, lawful_program}
-use Rattle.shortest_decision.proofs.AnswerLemmas.{many_items, result_says}
-use Rattle.shortest_decision.proofs.deciding.decide_pages.Goals as goal
+use Rattle.script_decision.proofs.ShortestLemmas.{many_items, result_says}
+use Rattle.script_decision.proofs.shortest_deciding.decide_pages.Goals as goal
 
 pub returns-in-Ok-clause-answer : goal.returns-in-Ok-clause-answer
 returns-in-Ok-clause-answer c =

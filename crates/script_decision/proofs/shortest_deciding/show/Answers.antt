@@ -1,8 +1,8 @@
 use Rattle.std.proofs.Common.{sym, subst}
-use Rattle.shortest_decision.specs.Answers.{IsShortestAnswer}
-use Rattle.shortest_decision.proofs.AnswerLemmas.{IsFound, each_good, shown_shortest, many_sums, many_tags}
-use Rattle.shortest_decision.proofs.deciding.show.Goals.{in-Whole, in-Shortest+in_ok-show_page-in-Shortest, in-Pairs, in-Tags}
-use Rattle.shortest_decision.proofs.deciding.show.Goals as goal
+use Rattle.script_decision.specs.ShortestAnswers.{IsShortestAnswer}
+use Rattle.script_decision.proofs.ShortestLemmas.{IsFound, each_good, shown_shortest, many_sums, many_tags}
+use Rattle.script_decision.proofs.shortest_deciding.show.Goals.{in-Whole, in-Shortest+in_ok-show_page-in-Shortest, in-Pairs, in-Tags}
+use Rattle.script_decision.proofs.shortest_deciding.show.Goals as goal
 
 pub returns : goal.returns
 returns c asked table program grammar limit is_grammar is = elim c.match-found.branch [

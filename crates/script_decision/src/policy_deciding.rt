@@ -11,17 +11,17 @@ ghost use Rattle.script_meaning.specs.Programs.{PlainProgram};
 ghost use Rattle.flow_runs.specs.Texts.{TextsFit};
 ghost use Rattle.loose_grammar.specs.declared.refusal.TheConstants as limits;
 ghost use Rattle.loose_grammar.specs.Pages.{IsPageGrammar};
-ghost use Rattle.policy_decision.specs.Answers.{IsPolicyAnswer, SaysOfRuns, IsMatchRefusal};
+ghost use Rattle.script_decision.specs.PolicyAnswers.{IsPolicyAnswer, SaysOfRuns, IsMatchRefusal};
 
-use crate::answer::PolicyAnswer;
-use crate::laws::fitting_loose_pages_make_fitting_runs;
-use crate::refusal::MatchRefusal;
+use crate::policy_answer::PolicyAnswer;
+use crate::policy_laws::fitting_loose_pages_make_fitting_runs;
+use crate::policy_refusal::MatchRefusal;
+use crate::showing_pages::show_page;
 use cfg_grammar::Grammar;
 use loose_grammar::{GrammarRefusal, ITEM_LIMIT, loose_grammar};
 use page_policy::{Pattern, forms_match_what_fits};
 use policy_matching::{Match, match_all};
 use program_rules::Program;
-use script_decision::show_page;
 use std::alloc::Global;
 use text_base::NoMemory;
 

@@ -13,9 +13,9 @@ use Rattle.script_decision.specs.declared.showing_pages.ShownPage.{ShownPage}
 use Rattle.script_decision.specs.Shows.{Shows}
 use Rattle.script_decision.proofs.PageLemmas.{texts_are_pages}
 use Rattle.script_decision.proofs.ShownLemmas.{ShowsEach, own_bytes}
-use Rattle.policy_decision.specs.declared.answer.PolicyAnswer.{PolicyAnswer}
-use Rattle.policy_decision.specs.declared.answer.PolicyAnswer.TheVariants as answer
-use Rattle.policy_decision.specs.Answers.{EachFits, IsShownMiss, IsPolicyAnswer, RunsFit, SaysOfRuns}
+use Rattle.script_decision.specs.declared.policy_answer.PolicyAnswer.{PolicyAnswer}
+use Rattle.script_decision.specs.declared.policy_answer.PolicyAnswer.TheVariants as answer
+use Rattle.script_decision.specs.PolicyAnswers.{EachFits, IsShownMiss, IsPolicyAnswer, RunsFit, SaysOfRuns}
 
 pub each_fits : (p : Pattern) (program : PlainProgram) (grammar : Grammar) → FormsMatchWhatFits → IsPageGrammar program grammar
     → ((text : List ℕ) → IsTextOf grammar text → Matches (form_of p) text) → EachFits p program

@@ -2,10 +2,10 @@ use Rattle.std.proofs.Common.{sym, subst}
 use Rattle.loose_grammar.specs.declared.refusal.TheConstants.{ITEM_LIMIT}
 use Rattle.page_policy.specs.Forms.{form_of}
 use Rattle.policy_matching.specs.Matching.{IsAnswer}
-use Rattle.policy_decision.specs.Answers.{IsPolicyAnswer, by_pages}
-use Rattle.policy_decision.proofs.AnswerLemmas.{each_fits, shown_miss}
-use Rattle.policy_decision.proofs.deciding.show.Goals.{in-All, in-Miss+in_ok-show_page-in-Miss, in-Items, in-States}
-use Rattle.policy_decision.proofs.deciding.show.Goals as goal
+use Rattle.script_decision.specs.PolicyAnswers.{IsPolicyAnswer, by_pages}
+use Rattle.script_decision.proofs.PolicyLemmas.{each_fits, shown_miss}
+use Rattle.script_decision.proofs.policy_deciding.show.Goals.{in-All, in-Miss+in_ok-show_page-in-Miss, in-Items, in-States}
+use Rattle.script_decision.proofs.policy_deciding.show.Goals as goal
 
 pub returns : goal.returns
 returns c p program grammar of is = elim c.match-found.branch [

@@ -4,8 +4,8 @@ use Rattle.derivatives.specs.Expressions.{Expr}
 use Rattle.loose_grammar.specs.declared.refusal.TheConstants.{ITEM_LIMIT}
 use Rattle.policy_matching.specs.Matching.{IsAnswer}
 use Rattle.program_rules.specs.View.{program_of, lawful_program}
-use Rattle.policy_decision.proofs.AnswerLemmas.{says_of_runs}
-use Rattle.policy_decision.proofs.deciding.decide_pages.Goals as goal
+use Rattle.script_decision.proofs.PolicyLemmas.{says_of_runs}
+use Rattle.script_decision.proofs.policy_deciding.decide_pages.Goals as goal
 
 pub returns-clause-answer : goal.returns-clause-answer
 returns-clause-answer c =

@@ -18,8 +18,8 @@ use Rattle.script_decision.specs.Decision.{IsReaderImage}
 use Rattle.script_decision.specs.declared.showing_pages.ShownPage.{ShownPage}
 use Rattle.script_decision.specs.Shows.{Shows}
 use Rattle.short_page.specs.ShortPages.{HasManyShortSums, HasManyShortTags}
-use Rattle.shortest_decision.specs.declared.answer.ShortestAnswer.{ShortestAnswer}
-use Rattle.shortest_decision.specs.declared.answer.ShortestAnswer.TheVariants as answer
+use Rattle.script_decision.specs.declared.shortest_answer.ShortestAnswer.{ShortestAnswer}
+use Rattle.script_decision.specs.declared.shortest_answer.ShortestAnswer.TheVariants as answer
 
 -- this is shown of a loose page that is not good, and each loose page that has fewer bytes than that one, and fewer than the largest u64,
 -- is good

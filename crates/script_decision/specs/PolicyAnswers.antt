@@ -17,10 +17,10 @@ use Rattle.loose_grammar.specs.Pages.{IsLoosePage, IsPageGrammar}
 use Rattle.loose_grammar.specs.Refusals.{HasLargeImage}
 use Rattle.script_decision.specs.declared.showing_pages.ShownPage.{ShownPage}
 use Rattle.script_decision.specs.Shows.{Shows}
-use Rattle.policy_decision.specs.declared.answer.PolicyAnswer.{PolicyAnswer}
-use Rattle.policy_decision.specs.declared.answer.PolicyAnswer.TheVariants as answer
-use Rattle.policy_decision.specs.declared.refusal.MatchRefusal.{MatchRefusal}
-use Rattle.policy_decision.specs.declared.refusal.MatchRefusal.TheVariants as refusal
+use Rattle.script_decision.specs.declared.policy_answer.PolicyAnswer.{PolicyAnswer}
+use Rattle.script_decision.specs.declared.policy_answer.PolicyAnswer.TheVariants as answer
+use Rattle.script_decision.specs.declared.policy_refusal.MatchRefusal.{MatchRefusal}
+use Rattle.script_decision.specs.declared.policy_refusal.MatchRefusal.TheVariants as refusal
 
 -- each loose page of the program fits the pattern
 abbrev pub EachFits : Pattern → PlainProgram → Type 0
