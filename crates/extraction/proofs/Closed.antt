@@ -1,9 +1,9 @@
 -- What holds of what each row names, and that each name in a list is of a set that is used.
-use Rattle.std.proofs.Common.{◌≡◌, inl, inr, ℕ, List, [], ◌∷◌, Some, refl, sym, subst, ap, ◌∙◌, Contains}
+use Rattle.std.proofs.Common.{inl, inr, ℕ, [], ◌∷◌, refl, subst, Contains}
 use Rattle.std.specs.Prelude.{⊤}
 use Rattle.std.proofs.lemmas.List.Elements.{Contains-append_cases}
 use Rattle.flow_code.specs.Points.{PlainFlow}
-use Rattle.least_sets.specs.Forms.{Form, text_form, same_form, join_form, before_form, request_form, integer_form, apply_form, yes_form, where_form}
+use Rattle.least_sets.specs.Forms.{Form}
 use Rattle.least_sets.specs.Simulations.{Alike}
 use Rattle.loose_sets.specs.Keys.{told_keys}
 use Rattle.loose_sets.specs.Versions.{PlainVersion, Linked}
@@ -12,7 +12,7 @@ use Rattle.loose_sets.specs.Uses.{At, version_back}
 use Rattle.loose_sets.specs.Arrays.{Forms}
 use Rattle.loose_sets.specs.Members.{members_forms, shown_forms}
 use Rattle.loose_sets.specs.Table.{point_of, forms_beside, forms, RowBy}
-use Rattle.loose_sets.specs.Used.{IsAspect, ReadsVersion, IsUsed}
+use Rattle.loose_sets.specs.Used.{IsAspect, IsUsed}
 use Rattle.loose_sets.specs.declared.name.Half.{Half}
 use Rattle.loose_sets.specs.declared.name.Aspect.{Aspect}
 use Rattle.loose_sets.specs.declared.name.SetVersion.{SetVersion}

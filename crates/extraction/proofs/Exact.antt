@@ -1,5 +1,5 @@
 -- The list of each name has exactly the rows of the set.
-use Rattle.std.proofs.Common.{◌≡◌, ◌↔◌, ◌⊎◌, inl, inr, ℕ, zero, suc, Bool, true, false, List, [], ◌∷◌, ◌++◌, Option, Some, None, refl, sym, subst, ap, ◌∙◌, arith, slice_get, Contains, map}
+use Rattle.std.proofs.Common.{◌≡◌, ◌↔◌, ◌⊎◌, inl, inr, ℕ, Bool, true, false, List, [], ◌∷◌, Option, Some, None, refl, sym, subst, ap, ◌∙◌, slice_get, Contains, map}
 use Rattle.std.proofs.lemmas.List.Elements.{Contains-append_left, Contains-append_right, Contains-append_cases}
 use Rattle.string_functions.proofs.Members.{Contains-nil, Contains-cons_cases, Contains-head, Contains-later}
 use Rattle.plain_values.specs.Plain.{PlainKey}
@@ -13,11 +13,11 @@ use Rattle.loose_sets.specs.declared.name.SetVersion.{SetVersion}
 use Rattle.loose_sets.specs.declared.name.SetVersion.TheVariants.{Point, Entry, Join}
 use Rattle.loose_sets.specs.declared.name.SetName.{SetName}
 use Rattle.loose_sets.specs.declared.name.SetName.TheVariants.{Value, Members, Shown, Result, Input, Output, Joined, Piece, FurtherPiece, FurtherPieces, Out}
-use Rattle.loose_sets.specs.Uses.{At, where_so, version_seen, versions_seen, version_back}
+use Rattle.loose_sets.specs.Uses.{At, where_so, version_seen, version_back}
 use Rattle.loose_sets.specs.Arrays.{Forms}
 use Rattle.loose_sets.specs.Sources.{texts_alone}
 use Rattle.loose_sets.specs.Members.{members_forms, link_form, link_forms}
-use Rattle.loose_sets.specs.Functions.{IsHandedIn, IsReturned, ArePairs, returned_of, returned_by, handed_to, is_null_slot, used_pair, used_pairs, entry_forms}
+use Rattle.loose_sets.specs.Functions.{IsReturned, ArePairs, returned_of, returned_by, handed_to, is_null_slot, used_pair, used_pairs, entry_forms}
 use Rattle.loose_sets.specs.Table.{point_of, forms_from, forms_there, forms_beside, forms, RowBy}
 use Rattle.loose_sets.proofs.Lists.{map_has}
 use Rattle.loose_sets.proofs.Returned.{none_in, returned_law}
@@ -33,7 +33,7 @@ use Rattle.flow_graph.specs.Rows.{points_seen}
 use Rattle.flow_graph.specs.Tables.{pairs_seen}
 use Rattle.extraction.specs.declared.tables.FlowTables.{FlowTables}
 use Rattle.extraction.specs.Params.{is_null}
-use Rattle.extraction.specs.Tables.{flow_of, functions_of, at_in, pairs_or_none, handed_in, result_forms, entered_forms, further_forms, lists_from, lists_of, AreTables}
+use Rattle.extraction.specs.Tables.{flow_of, functions_of, at_in, pairs_or_none, handed_in, further_forms, lists_from, lists_of, AreTables}
 use Rattle.extraction.proofs.ListedEntries as entries
 
 -- what stands in a list of images

@@ -1,5 +1,5 @@
 -- What the worklist has written, from the names to begin with to the whole system.
-use Rattle.std.proofs.Common.{◌≡◌, ◌≤◌, ◌+◌, inl, inr, ℕ, List, [], ◌∷◌, ◌++◌, refl, sym, subst, ap, ◌∙◌, arith, Contains, length, take}
+use Rattle.std.proofs.Common.{◌≡◌, ◌+◌, inl, inr, ℕ, List, [], ◌∷◌, refl, sym, subst, ap, ◌∙◌, arith, Contains, length, take}
 use Rattle.std.proofs.lemmas.List.{take_all}
 use Rattle.std.proofs.lemmas.List.Elements.{Contains-append_left, Contains-append_right, Contains-append_cases}
 use Rattle.numbered_sets.specs.Numbers.{AreDifferent}
@@ -15,9 +15,8 @@ use Rattle.given_texts.specs.Closed.{Closed, IsClosed}
 use Rattle.given_texts.specs.Given.{closed_of, IsGiven}
 use Rattle.given_texts.specs.declared.given.GivenTexts.{GivenTexts}
 use Rattle.system_writing.specs.declared.waiting.Waiting.{Waiting}
-use Rattle.system_writing.specs.declared.drafts.Draft.{Draft}
-use Rattle.system_writing.specs.Parts.{Part, start_part, set_part, PartRow}
-use Rattle.system_writing.specs.Written.{Denotes, IsWritten}
+use Rattle.system_writing.specs.Parts.{start_part, set_part, PartRow}
+use Rattle.system_writing.specs.Written.{Denotes}
 use Rattle.system_writing.specs.Drafts.{IsDraft}
 use Rattle.system_writing.specs.Steps.{IsBegun, IsBelow, Finishes}
 use Rattle.system_writing.specs.Systems.{IsSystem}

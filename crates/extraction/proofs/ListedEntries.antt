@@ -1,14 +1,12 @@
 -- What is looked up of functions is what they return, and which of their slots are null where they are entered.
-use Rattle.std.proofs.Common.{◌≡◌, ◌≤◌, ◌<◌, ◌-◌, ◌+◌, ℕ, zero, suc, Bool, true, false, ◌&&◌, List, [], ◌∷◌, Option, Some, None, refl, sym, subst, ap, ◌∙◌, arith, slice_get, Contains, map, eq-eqb}
-use Rattle.std.specs.Prelude.{◌||◌, not, nat_eq, nat_le, nat_lt}
+use Rattle.std.proofs.Common.{◌≡◌, ℕ, zero, suc, Bool, true, false, ◌&&◌, List, [], ◌∷◌, Option, Some, None, refl, sym, subst, ap, ◌∙◌, arith, slice_get, Contains, map, eq-eqb}
+use Rattle.std.specs.Prelude.{◌||◌, not, nat_eq}
 use Rattle.std.specs.List.{list_any}
 use Rattle.std.specs.Option.{option_map}
-use Rattle.std.proofs.lemmas.Bool.{ltb-true, leb-true, lt-ltb, le-leb}
 use Rattle.std.proofs.lemmas.Option.{same_Some, slice_get-map}
 use Rattle.std.proofs.lemmas.Map.Views.{exact_unsigned_eq, Contains-from_any}
 use Rattle.text_base.specs.Exactness.{exact_pair}
 use Rattle.flow_code.specs.Points.{PlainPoint, PlainFlowFunction, PlainFlow, points_in, function_at}
-use Rattle.flow_code.specs.Lawful.{IsOwnSlot}
 use Rattle.loose_sets.specs.Functions.{IsReturned, IsNullSlot, ArePairs}
 use Rattle.flow_graph.specs.Returned.{returned_pairs}
 use Rattle.loose_sets.proofs.Returned.{none_in, returned_law}

@@ -1,12 +1,11 @@
 -- The sets that rows name are among all names of the program.
-use Rattle.std.proofs.Common.{◌≡◌, ◌≤◌, ◌+◌, inl, inr, ℕ, zero, suc, Bool, true, false, if◌then◌else◌, List, [], ◌∷◌, ◌++◌, Option, Some, None, refl, sym, subst, ◌∙◌, ap, arith, slice_get, length, map}
-use Rattle.std.specs.Prelude.{⊤, Contains, flat_map}
-use Rattle.std.proofs.lemmas.Option.{slice_get_within}
-use Rattle.std.proofs.lemmas.List.Elements.{Contains-append_left, Contains-append_right, Contains-append_cases}
+use Rattle.std.proofs.Common.{◌≡◌, ◌≤◌, ◌+◌, inl, inr, ℕ, zero, suc, List, [], ◌∷◌, ◌++◌, Option, Some, None, refl, sym, subst, ◌∙◌, ap, arith, slice_get, length, map}
+use Rattle.std.specs.Prelude.{Contains, flat_map}
+use Rattle.std.proofs.lemmas.List.Elements.{Contains-append_left, Contains-append_right}
 use Rattle.string_functions.proofs.Members.{Contains-nil, Contains-cons_cases, Contains-head, Contains-later}
 use Rattle.useful_nonterminals.proofs.RuleLemmas.{flat_map_has}
-use Rattle.plain_values.specs.Plain.{PlainKey, int_key}
-use Rattle.flow_code.specs.Points.{PlainKeyRef, int_ref, text_ref, read_ref, PlainSource, concat_source, PlainPoint, set_point, call_point, print_point, echo_point, PlainFlowFunction, PlainFlow, points_in, point_at, function_at}
+use Rattle.plain_values.specs.Plain.{PlainKey}
+use Rattle.flow_code.specs.Points.{concat_source, PlainPoint, set_point, call_point, PlainFlowFunction, PlainFlow, points_in, point_at, function_at}
 use Rattle.flow_code.specs.Lawful.{nexts, IsOwnSlot}
 use Rattle.loose_sets.specs.Reaching.{at_point, at_entry}
 use Rattle.loose_sets.specs.Versions.{PlainVersion, of_definition, join_at, Stands, Link, IsKept, PlainJoin, asked_in, linked_in}

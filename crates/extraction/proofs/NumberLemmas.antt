@@ -3,21 +3,21 @@ use Rattle.std.proofs.Common.{◌≡◌, ◌<◌, ◌≤◌, ◌+◌, ◌⊎◌,
 use Rattle.op_system.specs.declared.op.Op.{Op}
 use Rattle.least_sets.specs.Forms.{Form, text_form, same_form, join_form, before_form, request_form, integer_form, apply_form, yes_form, where_form}
 use Rattle.least_sets.specs.Simulations.{Alike}
-use Rattle.numbered_sets.specs.Numbers.{Keeps, AddsOnly, AreDifferent}
+use Rattle.numbered_sets.specs.Numbers.{AreDifferent}
 use Rattle.numbered_sets.proofs.NumberLemmas.{at_front}
 use Rattle.loose_sets.specs.declared.name.SetName.{SetName}
 use Rattle.point_listing.specs.declared.form.NamedForm.{NamedForm}
 use Rattle.point_listing.specs.Forms.{form_seen}
 use Rattle.given_texts.specs.Closed.{Closed}
 use Rattle.system_writing.specs.Forms.{all_names, text_bytes}
-use Rattle.system_writing.specs.Drafts.{IsAt, IsDraft}
-use Rattle.system_writing.specs.Steps.{AddsSet, AddsStart, Writes}
+use Rattle.system_writing.specs.Drafts.{IsDraft}
+use Rattle.system_writing.specs.Steps.{AddsSet, Writes}
 use Rattle.system_writing.specs.Sizes.{numbers_due, lines_due}
-use Rattle.system_writing.proofs.Places.{contains_at, at_contains}
+use Rattle.system_writing.proofs.Places.{at_contains}
 use Rattle.system_writing.proofs.Growing.{at_end}
-use Rattle.system_writing.proofs.Names.{at_name, number_of, set_added, start_added}
+use Rattle.system_writing.proofs.Names.{at_name, set_added}
 use Rattle.system_writing.proofs.RowLaws.{row_written}
-use Rattle.system_writing.proofs.Sizes.{set_small, start_small, row_small}
+use Rattle.system_writing.proofs.Sizes.{set_small, row_small}
 use Rattle.extraction.specs.declared.work.Work.{Work}
 use Rattle.extraction.specs.Steps.{IsPaired, HasNumber, Stands, Adds, Grows, IsNameNumbered, IsFormNumbered, IsRowWritten}
 use Rattle.std.proofs.lemmas.List.Elements.{Contains-push_cases}

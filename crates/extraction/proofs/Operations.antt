@@ -1,5 +1,5 @@
 -- An operation of the loose sets is in a cycle exactly where it is in one by versions.
-use Rattle.std.proofs.Common.{◌≡◌, ◌↔◌, ◌⊎◌, inl, inr, ℕ, refl, sym, subst, ◌∙◌, Contains}
+use Rattle.std.proofs.Common.{◌≡◌, ◌↔◌, ℕ, refl, subst, Contains}
 use Rattle.op_system.specs.declared.op.Op.{Op}
 use Rattle.flow_code.specs.Points.{PlainFlow}
 use Rattle.least_sets.specs.Forms.{Form, apply_form}

@@ -1,5 +1,5 @@
 -- The start of the system has exactly the loose pages.
-use Rattle.std.proofs.Common.{◌≡◌, ◌↔◌, ℕ, List, [], sym, subst, refl, Contains}
+use Rattle.std.proofs.Common.{◌↔◌, ℕ, List, sym, subst, Contains}
 use Rattle.cfg_grammar.specs.declared.symbol.Symbol.TheVariants.{Nt}
 use Rattle.op_system.specs.declared.op.Op.{Op}
 use Rattle.op_system.specs.declared.system.OpSystem.{OpSystem}

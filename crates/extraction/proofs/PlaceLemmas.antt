@@ -1,6 +1,5 @@
 -- Members of lists by their places.
-use Rattle.std.proofs.Common.{◌≡◌, ◌⊎◌, inl, inr, ℕ, zero, suc, List, [], ◌∷◌, Some, refl, subst, arith, slice_get, Contains, map}
-use Rattle.std.proofs.lemmas.Option.{slice_get_within, get_or_from_slice_get, slice_get-get_or}
+use Rattle.std.proofs.Common.{◌≡◌, ◌⊎◌, inl, inr, zero, suc, List, [], ◌∷◌, refl, subst, arith, Contains, map}
 use Rattle.numbered_sets.specs.Numbers.{Keeps}
 
 pub keeps_itself : {X : Type 0} (xs : List X) → Keeps xs xs

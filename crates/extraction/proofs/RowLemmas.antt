@@ -1,29 +1,25 @@
 -- Rows that are written for names, one name after another.
-use Rattle.std.proofs.Common.{◌≡◌, ◌<◌, ◌≤◌, ◌+◌, ◌⊎◌, inl, inr, ℕ, zero, suc, List, [], ◌∷◌, ◌++◌, Some, None, refl, sym, subst, ap, ◌∙◌, arith, slice_get, Contains, length, take, get_or, map, append_assoc, append-nil}
-use Rattle.std.specs.Prelude.{flat_map}
-use Rattle.std.specs.List.{sum_by}
+use Rattle.std.proofs.Common.{◌≡◌, ◌<◌, ◌≤◌, ◌+◌, ◌⊎◌, inl, inr, ℕ, zero, suc, List, [], ◌∷◌, ◌++◌, Some, None, refl, sym, subst, ap, ◌∙◌, arith, slice_get, Contains, length, take, get_or, append_assoc, append-nil}
 use Rattle.std.proofs.Math.Seq.{take-suc}
 use Rattle.std.proofs.lemmas.Bool.{cases_lt}
 use Rattle.std.proofs.lemmas.Option.{same_Some, slice_get_within, get_or_from_slice_get}
-use Rattle.std.proofs.lemmas.List.{map-append, length-append, length-map, take_all}
-use Rattle.std.proofs.lemmas.List.Sums.{sum_by-append, sum_by_push}
-use Rattle.std.proofs.lemmas.List.Elements.{Contains-append_left, Contains-append_right, Contains-append_cases, Contains-push}
+use Rattle.std.proofs.lemmas.List.{map-append, length-append, take_all}
+use Rattle.std.proofs.lemmas.List.Sums.{sum_by_push}
+use Rattle.std.proofs.lemmas.List.Elements.{Contains-append_left, Contains-push}
 use Rattle.least_sets.specs.Forms.{Form}
 use Rattle.numbered_sets.specs.Numbers.{Keeps}
 use Rattle.loose_sets.specs.declared.name.SetName.{SetName}
 use Rattle.point_listing.specs.declared.form.NamedForm.{NamedForm}
 use Rattle.point_listing.specs.Forms.{form_seen, forms_seen}
-use Rattle.given_texts.specs.Closed.{Closed}
 use Rattle.system_writing.specs.Forms.{all_names, text_bytes}
 use Rattle.system_writing.specs.Drafts.{IsDraft}
 use Rattle.system_writing.specs.Steps.{AddsStart}
-use Rattle.system_writing.specs.Sizes.{numbers_due, lines_due}
 use Rattle.system_writing.proofs.Names.{start_added}
 use Rattle.system_writing.proofs.Sizes.{start_small}
 use Rattle.extraction.specs.declared.work.Work.{Work}
 use Rattle.extraction.specs.Asked.{AreAsked}
 use Rattle.extraction.specs.Numbered.{Lists, rows_of_name, rows_of, bytes_of, forms_in, bytes_in, NamedIn, IsNamedBelow, AreReached}
-use Rattle.extraction.specs.Steps.{IsPaired, HasNumber, Stands, Adds, Grows, IsNameNumbered, IsRowWritten, AddsRows, AskedIn, Begins}
+use Rattle.extraction.specs.Steps.{IsPaired, Stands, IsNameNumbered, IsRowWritten, AddsRows, AskedIn, Begins}
 use Rattle.extraction.specs.Listed.{IsListed}
 use Rattle.system_writing.proofs.Places.{contains_at, at_contains}
 use Rattle.extraction.proofs.PlaceLemmas.{keeps_itself, keeps_both}

@@ -1,5 +1,5 @@
 -- Each rule of the system is an operation of the loose sets.
-use Rattle.std.proofs.Common.{◌≡◌, ◌↔◌, ℕ, List, Some, subst, slice_get, Contains}
+use Rattle.std.proofs.Common.{◌≡◌, ℕ, List, Some, subst, slice_get, Contains}
 use Rattle.text_base.specs.declared.numbers.Nt as nt
 use Rattle.op_system.specs.declared.op.Op.{Op}
 use Rattle.op_system.specs.declared.system.OpRule.{OpRule}
@@ -11,14 +11,13 @@ use Rattle.least_sets.specs.Simulations.{IsMonotone}
 use Rattle.loose_sets.specs.Versions.{Linked, linked_in}
 use Rattle.ssa_form.specs.Versions.{joins_of}
 use Rattle.loose_sets.specs.Exact.{AreExact, by_version, IsRead}
-use Rattle.loose_sets.specs.Table.{RowBy}
 use Rattle.loose_sets.specs.declared.name.SetName.{SetName}
 use Rattle.loose_sets.specs.declared.name.SetName.TheVariants.{Input, Output}
 use Rattle.loose_sets.specs.Uses.{At}
 use Rattle.point_listing.specs.Reading.{read_at}
 use Rattle.point_listing.proofs.Exact.{are_exact}
 use Rattle.given_texts.specs.Closed.{Closed, IsClosed}
-use Rattle.system_writing.specs.Parts.{Part, set_part}
+use Rattle.system_writing.specs.Parts.{set_part}
 use Rattle.system_writing.specs.Systems.{IsSystem}
 use Rattle.system_writing.proofs.Same as same
 use Rattle.extraction.specs.Listers.{IsFlowLister}

@@ -1,11 +1,11 @@
 -- The table of the names that are listed has the sets of the table of versions, and the same operations in cycles.
-use Rattle.std.proofs.Common.{◌≡◌, ◌↔◌, ℕ, false, List, [], ◌∷◌, refl, sym, subst, Contains}
+use Rattle.std.proofs.Common.{◌≡◌, ◌↔◌, ℕ, List, [], ◌∷◌, refl, sym, subst, Contains}
 use Rattle.std.specs.Prelude.{⊤}
 use Rattle.op_system.specs.declared.op.Op.{Op}
 use Rattle.flow_code.specs.Points.{PlainFlow}
 use Rattle.least_sets.specs.Forms.{Form, text_form, same_form, join_form, before_form, request_form, integer_form, apply_form, yes_form, where_form}
 use Rattle.least_sets.specs.Sets.{In, IsCircular}
-use Rattle.least_sets.specs.Simulations.{TakesOver, Holds, Alike, is_same, HasRow, Simulates, IsMonotone}
+use Rattle.least_sets.specs.Simulations.{TakesOver, Holds, Alike, Simulates, IsMonotone}
 use Rattle.least_sets.proofs.Simulated as simulated
 use Rattle.loose_sets.specs.Versions.{Linked}
 use Rattle.loose_sets.specs.Uses.{At}

@@ -1,6 +1,6 @@
 -- What each step of the worklist adds. No public clause cites it.
 use Rattle.std.specs.Prelude.{◌≡◌, ◌≤◌, ◌+◌, ◌⊎◌, ℕ, List, ◌∷◌, [], ◌++◌, Contains, length}
-use Rattle.numbered_sets.specs.Numbers.{Keeps, AreDifferent}
+use Rattle.numbered_sets.specs.Numbers.{Keeps}
 use Rattle.least_sets.specs.Forms.{Form}
 use Rattle.least_sets.specs.Simulations.{Alike}
 use Rattle.loose_sets.specs.declared.name.SetName.{SetName}

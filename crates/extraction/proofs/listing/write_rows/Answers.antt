@@ -1,8 +1,6 @@
 use Rattle.std.proofs.Common.{arith, ◌≡◌, [], sym, ap, ◌∙◌, ◌++◌, List}
 use Rattle.std.specs.Vec.Iter.{into_iter_items}
 use Rattle.point_listing.specs.declared.form.NamedForm.{NamedForm}
-use Rattle.point_listing.specs.Forms.{forms_seen}
-use Rattle.extraction.specs.Numbered.{NamedIn}
 use Rattle.extraction.proofs.RowLemmas.{rest_of, rows_none, forms_more, rows_done, no_items}
 use Rattle.extraction.proofs.listing.write_rows.Goals as goal
 

@@ -1,6 +1,5 @@
-use Rattle.std.proofs.Common.{◌≡◌, ◌<◌, List, [], ◌∷◌, ◌++◌, length, refl, ap, arith}
+use Rattle.std.proofs.Common.{◌≡◌, ◌<◌, [], ◌∷◌, ◌++◌, length, refl, arith}
 use Rattle.std.proofs.lemmas.Option.{slice_get_read, slice_get_within}
-use Rattle.loose_sets.specs.declared.name.SetName.{SetName}
 use Rattle.extraction.proofs.NumberLemmas.{old_name, new_name, names_old, names_new, is_other}
 use Rattle.extraction.proofs.numbering.number_name.Goals as goal
 

@@ -3,7 +3,6 @@ use Rattle.flow_code.specs.View.{plain_flow}
 use Rattle.given_texts.specs.Given.{closed_of}
 use Rattle.loose_sets.specs.declared.name.SetName.{SetName}
 use Rattle.extraction.specs.Ends.{AreEnds}
-use Rattle.extraction.specs.Steps.{Begins}
 use Rattle.extraction.proofs.Pages.{start_pages, ends_asked}
 use Rattle.extraction.proofs.Rules.{loose_rules}
 use Rattle.extraction.proofs.Extracted as extracted
