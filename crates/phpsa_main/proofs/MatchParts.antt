@@ -1,5 +1,5 @@
 -- What is found of a program and a pattern makes what doing the task comes to.
-use Rattle.std.proofs.Common.{◌≡◌, ◌∙◌, ℕ, List, Contains, Option, None, Some, inl, inr, refl, sym, subst, lit<}
+use Rattle.std.proofs.Common.{◌≡◌, ℕ, List, Contains, Some, inl, inr, refl, sym, subst, lit<}
 use Rattle.std.specs.Prelude.{◌⊎◌, Result, Ok, Err}
 use Rattle.io_edge.specs.Counts.{one_more}
 use Rattle.io_edge.specs.Told.{Content, Tells, Stays}
@@ -10,8 +10,6 @@ use Rattle.page_policy.specs.Forms.{IsForm}
 use Rattle.page_policy.specs.Patterns.{Pattern}
 use Rattle.page_policy.specs.declared.refusal.PolicyRefusal.{PolicyRefusal}
 use Rattle.page_policy.specs.declared.pattern.Pattern.{Pattern as Held}
-use Rattle.script_decision.specs.PolicyAnswers.{IsPolicyAnswer, SaysOfRuns}
-use Rattle.script_decision.specs.declared.policy_answer.PolicyAnswer.{PolicyAnswer}
 use Rattle.script_meaning.specs.Programs.{PlainProgram}
 use Rattle.program_files.specs.Source.{SourceCall, source_call}
 use Rattle.program_files.specs.declared.refusal.LoadRefusal.{LoadRefusal}
@@ -24,11 +22,11 @@ use Rattle.phpsa_texts.specs.Texts.{IsTold, load_text, file_text, policy_text}
 use Rattle.phpsa_tasks.specs.declared.reply.Reply.TheVariants as reply
 use Rattle.phpsa_tasks.specs.Tasks.{ScriptFile, root_of, script_match}
 use Rattle.phpsa_tasks.specs.Subjects.{IsLoadedInside}
-use Rattle.phpsa_tasks.specs.Policies.{FindsPattern, pattern_unread, no_pattern_in, RefusesPattern}
+use Rattle.phpsa_tasks.specs.Policies.{pattern_unread, no_pattern_in, RefusesPattern}
 use Rattle.phpsa_tasks.specs.Counted.{uncounted, from_misses}
 use Rattle.phpsa_tasks.specs.Results.{TaskResult, Does}
 use Rattle.phpsa_tasks.proofs.Faults.{told_faults, wanted_faults}
-use Rattle.phpsa_main.specs.Matched.{HoldsFound, HasPattern, HasMatchReply}
+use Rattle.phpsa_main.specs.Matched.{HasPattern, HasMatchReply}
 use Rattle.phpsa_main.proofs.ScriptParts.{load_uncounted, load_faults}
 use Rattle.phpsa_main.proofs.LoadedParts.{run_reads, run_misses}
 

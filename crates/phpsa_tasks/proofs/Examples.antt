@@ -13,7 +13,7 @@ use Rattle.document_types.specs.DocumentTypes.{strict_type, mini_type, file_type
 use Rattle.phpsa_texts.specs.declared.exit.Exit.TheVariants.{Done, No, Undecided, Input, Usage, Site}
 use Rattle.phpsa_texts.specs.declared.answers.AnswerForm.TheVariants.{Plain, Json}
 use Rattle.phpsa_texts.specs.Texts.{help_text, version_text, usage_text}
-use Rattle.phpsa_tasks.specs.Tasks.{script_file, root_of, script_check, page_check, script_making, made_check, script_run, grammar_making, list_check, script_match, help_telling, version_telling, usage, task_of}
+use Rattle.phpsa_tasks.specs.Tasks.{script_file, root_of, script_check, page_check, script_making, made_check, script_run, grammar_making, list_check, help_telling, version_telling, usage, task_of}
 use Rattle.phpsa_tasks.specs.declared.choice.PageChoice.TheVariants.{First, Shortest}
 use Rattle.phpsa_tasks.specs.Call.{output_of, Gains, GainsPrefix, GainsNothing, Fails}
 use Rattle.phpsa_tasks.specs.Subjects.{PageBy}

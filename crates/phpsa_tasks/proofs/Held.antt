@@ -22,7 +22,7 @@ use Rattle.program_loader.specs.Told.{IsLoaded, HoldsProgram, AreShort, StubsAre
 use Rattle.dtd_model.specs.Table.{Table}
 use Rattle.page_policy.specs.Patterns.{Pattern}
 use Rattle.page_policy.specs.Grammar.{Spells}
-use Rattle.page_policy.specs.Refusals.{deep_at, IsTaken, IsCause as IsPolicyCause}
+use Rattle.page_policy.specs.Refusals.{IsTaken, IsCause as IsPolicyCause}
 use Rattle.page_policy.specs.declared.refusal.PolicyRefusal.{PolicyRefusal}
 use Rattle.page_policy.specs.declared.refusal.PolicyRefusal.TheVariants as policy
 use Rattle.page_policy.specs.declared.refusal.TheConstants.{POLICY_LIMIT}

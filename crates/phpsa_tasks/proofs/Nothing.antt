@@ -13,7 +13,7 @@ use Rattle.request_reading.specs.declared.refusal.RequestRefusal.TheVariants as 
 use Rattle.document_types.specs.DocumentTypes.{NamedType}
 use Rattle.page_decision.specs.declared.goal.Goal.{Goal}
 use Rattle.phpsa_texts.specs.declared.exit.Exit.{Exit}
-use Rattle.phpsa_texts.specs.declared.exit.Exit.TheVariants.{Missing, Script, Input, Memory, Policy}
+use Rattle.phpsa_texts.specs.declared.exit.Exit.TheVariants.{Missing, Script, Input, Memory}
 use Rattle.phpsa_texts.specs.Statuses.{load_status, file_status, request_status, policy_status}
 use Rattle.phpsa_tasks.specs.Tasks.{ScriptFile, root_of, Task, script_check, page_check, script_making, made_check, script_run, grammar_making, list_check, script_match, help_telling, version_telling, usage}
 use Rattle.page_policy.specs.declared.refusal.PolicyRefusal.{PolicyRefusal}

@@ -1,5 +1,5 @@
 -- What is found of the pages of a grammar is an answer for the program.
-use Rattle.std.proofs.Common.{◌<◌, ℕ, List, map, subst, Result, Ok, Err, IfOk}
+use Rattle.std.proofs.Common.{◌≡◌, ◌<◌, ◌≤◌, ◌+◌, ℕ, List, map, length, min, subst, arith, Result, Ok, Err, IfOk}
 use Rattle.text_base.specs.declared.letter.Letter.TheVariants.{OfByte}
 use Rattle.text_base.specs.declared.memory.NoMemory.{NoMemory}
 use Rattle.text_base.specs.declared.page_token.PageToken.{PageToken}
@@ -26,25 +26,20 @@ use Rattle.script_decision.specs.Answers.{EachIsGood, RunsAreGood}
 use Rattle.script_decision.specs.Decision.{IsReaderImage}
 use Rattle.script_decision.specs.declared.showing_pages.ShownPage.{ShownPage}
 use Rattle.script_decision.specs.Shows.{Shows}
+use Rattle.script_decision.specs.Shown.{IsShownCounterexample}
 use Rattle.script_decision.proofs.PageLemmas.{texts_are_pages}
 use Rattle.script_decision.proofs.ShownLemmas.{ShowsEach, own_bytes}
 use Rattle.short_sentences.specs.declared.answer.ShortAnswer.{ShortAnswer}
-use Rattle.short_sentences.specs.declared.answer.ShortAnswer.TheVariants.{Whole, Shortest, Pairs, Tags}
-use Rattle.short_page.specs.ShortPages.{AreShorterGood, IsShortestBad, HasShortSums, HasShortTags, HasManyShortSums, HasManyShortTags, IsShortPageAnswer}
+use Rattle.short_sentences.specs.declared.answer.ShortAnswer.TheVariants.{Pairs, Tags}
+use Rattle.short_page.specs.ShortPages.{AreShorterGood, IsShortestBad, HasShortSums, HasShortTags, HasManyShortSums, HasManyShortTags}
 use Rattle.script_decision.specs.declared.shortest_answer.ShortestAnswer.{ShortestAnswer}
 use Rattle.script_decision.specs.declared.shortest_answer.ShortestAnswer.TheVariants as answer
 use Rattle.script_decision.specs.ShortestAnswers.{IsShownShortest, by_pages, HasManyItems, IsShortestAnswer, SaysOfRuns}
+use Rattle.script_decision.specs.ShortestBelow.{IsCutOf}
 
 -- where each loose page is good, so are runs
 abbrev pub RunsFollow : Type 0
 RunsFollow = (goal : Goal) (table : Table) (program : PlainProgram) → IsLawful program → TextsFit program → EachIsGood goal table program → RunsAreGood goal table program
-
--- what is found of the pages of a grammar, by the reader of the definition's pages
-abbrev pub IsFound : Goal → Table → Grammar → ℕ → ShortAnswer → Type 0
-IsFound goal table grammar limit found =
-    IsShortPageAnswer table (DerivesText grammar.productions.items (Nt grammar.start))
-    (IsMachineImage grammar first_state (EchoStep (merged_next table) (tokens_at table) (tokens_behind table)) (EchoEnd (merged_next table) (tokens_at table) (tokens_behind table)))
-    (IsDerivationOf grammar) goal limit found
 
 module _ (goal : Goal) (table : Table) (program : PlainProgram) (grammar : Grammar) (is_grammar : IsPageGrammar program grammar) where
   abbrev IsPage : List ℕ → Type 0
@@ -76,6 +71,32 @@ module _ (goal : Goal) (table : Table) (program : PlainProgram) (grammar : Gramm
     shows = subst (λ (page : List ℕ). Shows page shown) (own_bytes is.page) (each grammar.productions.items grammar.start (map OfByte is.page) is.derives);
     shortest = λ other loose less few. is.shortest other (loose_page other loose) less few;
   }
+
+  -- of a grammar that is cut to texts of so many bytes
+  module _ (most : ℕ) (cut : Grammar) (is_cut : IsCutOf grammar most cut) where
+    abbrev IsCutPage : List ℕ → Type 0
+    IsCutPage = DerivesText cut.productions.items (Nt cut.start)
+
+    pub good_below : ((page : List ℕ) → IsCutPage page → IsGood goal table page) → (page : List ℕ) → IsLoosePage program page → length page ≤ most → IsGood goal table page
+    good_below all page loose short = all page ((is_cut page).1 (loose_page page loose, short))
+
+    own_page : (page : List ℕ) → IsCutPage page → IsPage page
+    own_page page d = ((is_cut page).0 d).0
+
+    short_page : (page : List ℕ) → IsCutPage page → length page ≤ most
+    short_page page d = ((is_cut page).0 d).1
+
+    pub bad_below : (derivation : Derivation) (shown : ShownPage) → ShowsEach derivation shown → IsShortestBad table IsCutPage (IsDerivationOf cut) goal derivation → IsShownShortest goal table program shown
+    bad_below derivation shown each is = record {
+      page = is.page;
+      loose = page_loose is.page (own_page is.page is.is_page);
+      bad = is.bad;
+      shows = subst (λ (page : List ℕ). Shows page shown) (own_bytes is.page) (each cut.productions.items cut.start (map OfByte is.page) is.derives);
+      shortest = λ other loose less few.
+          let long : length is.page ≤ most = short_page is.page is.is_page in
+          let short : length other ≤ most = omega (arith, long, less) in
+          is.shortest other ((is_cut other).1 (loose_page other loose, short)) less few;
+    }
 
   sums_wider : {S : Type 0} (sum_by : List PageToken → S) (asked : Goal) (limit count l : ℕ) → HasShortSums table IsPage IsImage sum_by asked limit count l → HasShortSums table (IsLoosePage program) (IsReaderImage table program) sum_by asked limit count l
   sums_wider sum_by asked limit count l h =
@@ -118,3 +139,30 @@ module _ (law : RunsFollow) (goal : Goal) (table : Table) (program : PlainProgra
   pub result_says : (r : Result ShortestAnswer NoMemory) → IfOk r (IsShortestAnswer goal table program limit) → IfOk r (SaysOfRuns goal table program)
   result_says (Ok a) is = says a is
   result_says (Err e) is = tt
+
+-- a page that is known is a shortest one, where each of fewer bytes is good
+pub known_shortest : (goal : Goal) (table : Table) (program : PlainProgram) (shown : ShownPage) (fewer : ℕ) → IsShownCounterexample goal table program shown → shown.length ≤ fewer + 1
+    → ((page : List ℕ) → IsLoosePage program page → length page ≤ fewer → IsGood goal table page) → IsShownShortest goal table program shown
+known_shortest goal table program shown fewer is next all = record {
+  page = is.page;
+  loose = is.loose;
+  bad = is.bad;
+  shows = is.shows;
+  shortest = λ other loose less few.
+      let counted : shown.length ≡ min (length is.page) most = is.shows.counted in
+      let short : length other ≤ fewer = omega (arith, counted, less, few, next) in
+      all other loose short;
+}
+
+-- and where it is empty
+pub empty_shortest : (goal : Goal) (table : Table) (program : PlainProgram) (shown : ShownPage) → IsShownCounterexample goal table program shown → shown.length ≡ 0
+    → IsShownShortest goal table program shown
+empty_shortest goal table program shown is empty = record {
+  page = is.page;
+  loose = is.loose;
+  bad = is.bad;
+  shows = is.shows;
+  shortest = λ other loose less few.
+      let counted : shown.length ≡ min (length is.page) most = is.shows.counted in
+      absurd (omega (arith, counted, less, few, empty));
+}

@@ -7,3 +7,4 @@ pub mod Shown
 pub mod EchoLaws
 pub mod PolicyAnswers
 pub mod ShortestAnswers
+pub mod ShortestBelow

@@ -2,24 +2,21 @@
 
 ghost use Rattle.std.specs.Prelude.{ℕ, IfOk, IfErr};
 ghost use Rattle.cfg_grammar.specs.declared.grammar.Grammar as grammars;
-ghost use Rattle.cfg_grammar.specs.declared.symbol.Symbol as symbols;
 ghost use Rattle.dtd_model.specs.Table.{Table};
 ghost use Rattle.dtd_model.specs.TableOf.{table_of};
-ghost use Rattle.echoing_machine.specs.Echoes.{EchoEnd, EchoStep};
+ghost use Rattle.echoing_machine.specs.Echoes.{EchoStep};
 ghost use Rattle.flow_runs.specs.Texts.{TextsFit};
-ghost use Rattle.fst_core.specs.Outputs.{DerivesText};
+ghost use Rattle.grammar_image.specs.Refusals.{IsCause};
 ghost use Rattle.loose_grammar.specs.Pages.{IsPageGrammar};
 ghost use Rattle.merged_reader.specs.States.{merged_next};
-ghost use Rattle.page_decision.specs.Echoes.{IsMachineImage};
 ghost use Rattle.page_decision.specs.PageSums.{AreSumsOf};
-ghost use Rattle.page_decision.specs.TextVerdicts.{IsDerivationOf};
 ghost use Rattle.page_decision.specs.declared.goal.Goal as goals;
 ghost use Rattle.page_reader.specs.States.{first_state, tokens_at, tokens_behind};
 ghost use Rattle.program_rules.specs.View.{program_of};
 ghost use Rattle.script_decision.specs.Decision.{IsCheckRefusal};
 ghost use Rattle.script_meaning.specs.Programs.{PlainProgram};
-ghost use Rattle.short_page.specs.ShortPages.{IsShortPageAnswer};
 ghost use Rattle.script_decision.specs.ShortestAnswers.{IsShortestAnswer, SaysOfRuns};
+ghost use Rattle.script_decision.specs.ShortestBelow.{IsFound};
 
 use crate::laws::good_loose_pages_make_good_runs;
 use crate::refusal::CheckRefusal;
@@ -45,12 +42,7 @@ use text_base::NoMemory;
 fn show(alloc: Global, found: ShortAnswer) -> Result<ShortestAnswer, NoMemory>
     ensures { IfOk result (λ answer. (goal : goals.Goal) (table : Table) (program : PlainProgram)
         (grammar : grammars.Grammar) (limit : ℕ) → IsPageGrammar program grammar
-        → IsShortPageAnswer table
-        (DerivesText grammar.productions.items (symbols.Symbol.Nt grammar.start))
-        (IsMachineImage grammar first_state
-        (EchoStep (merged_next table) (tokens_at table) (tokens_behind table))
-        (EchoEnd (merged_next table) (tokens_at table) (tokens_behind table)))
-        (IsDerivationOf grammar) goal limit found
+        → IsFound goal table grammar limit found
         → IsShortestAnswer goal table program limit answer) }
 {
     Ok(match found {
@@ -59,6 +51,40 @@ fn show(alloc: Global, found: ShortAnswer) -> Result<ShortestAnswer, NoMemory>
         ShortAnswer::Pairs { count, length } => ShortestAnswer::Pairs { count, length },
         ShortAnswer::Tags { count, length } => ShortestAnswer::Tags { count, length },
     })
+}
+
+/// What is found of the pages of a grammar by the reader of the definition's pages.
+pub(crate) fn found_in(
+    alloc: Global,
+    grammar: &Grammar,
+    indexed: &IndexedDtd,
+    goal: Goal,
+    sums: &PageSums,
+    items: u64,
+    pairs: u64,
+) -> Result<ShortAnswer, ImageRefusal>
+    requires { AreSumsOf goal (table_of indexed.now.dtd.now) sums.now }
+    ensures answer { IfOk result
+        (IsFound goal (table_of indexed.now.dtd.now) grammar.now pairs) }
+    ensures cause { IfErr result (IsCause grammar.now.productions.items
+        (EchoStep (merged_next (table_of indexed.now.dtd.now))
+        (tokens_at (table_of indexed.now.dtd.now)) (tokens_behind (table_of indexed.now.dtd.now)))
+        grammar.now.start first_state items) }
+{
+    reads_pages(indexed.dtd);
+    let reader = PageRunReader { indexed };
+    echo_is_page_machine(indexed.dtd, &reader);
+    let machine = Echoing { reader };
+    shortest_page(
+        alloc,
+        grammar,
+        indexed.dtd,
+        goal,
+        &machine,
+        sums,
+        items,
+        pairs,
+    )
 }
 
 /// A shortest page that the grammar of a program derives and that is not good.
@@ -81,20 +107,7 @@ fn decide_pages(
 {
     let _ = program;
     good_loose_pages_make_good_runs();
-    reads_pages(indexed.dtd);
-    let reader = PageRunReader { indexed };
-    echo_is_page_machine(indexed.dtd, &reader);
-    let machine = Echoing { reader };
-    match shortest_page(
-        alloc,
-        grammar,
-        indexed.dtd,
-        goal,
-        &machine,
-        sums,
-        ITEM_LIMIT,
-        pairs,
-    ) {
+    match found_in(alloc, grammar, indexed, goal, sums, ITEM_LIMIT, pairs) {
         Ok(found) => show(alloc, found),
         Err(ImageRefusal::Large { items }) => Ok(ShortestAnswer::Items { count: items }),
         Err(ImageRefusal::Memory) => Err(NoMemory),
@@ -129,16 +142,8 @@ fn decide_program(
     }
 }
 
-/// Whether each loose page of the program is good by the goal and the definition, and what is shown
-/// of a shortest one that is not, with at most `pairs` different sums of sentences a nonterminal. A
-/// yes says that each run that ends prints a good page, for every admitted request and every number
-/// of units.
-///
-/// # Errors
-///
-/// `LongText` only where a text literal of the program has over 16,777,216 bytes; `Limit` only
-/// where the content models of the definition pass a limit. `Memory` may come at any time.
-pub fn check_shortest(
+/// The answer without a page that is known: by a search among all pages.
+pub(crate) fn search(
     alloc: Global,
     program: &Program,
     dtd: &Dtd,

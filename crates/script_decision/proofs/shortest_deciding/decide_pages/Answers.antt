@@ -1,4 +1,3 @@
-use Rattle.std.proofs.Common.{IfOk}
 use Rattle.std.proofs.lemmas.Result.{IfOk-weaker}
 use Rattle.dtd_model.specs.TableOf.{table_of}
 use Rattle.program_rules.specs.View.{program_of, lawful_program}

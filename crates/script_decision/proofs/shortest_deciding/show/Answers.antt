@@ -1,6 +1,7 @@
 use Rattle.std.proofs.Common.{sym, subst}
 use Rattle.script_decision.specs.ShortestAnswers.{IsShortestAnswer}
-use Rattle.script_decision.proofs.ShortestLemmas.{IsFound, each_good, shown_shortest, many_sums, many_tags}
+use Rattle.script_decision.specs.ShortestBelow.{IsFound}
+use Rattle.script_decision.proofs.ShortestLemmas.{each_good, shown_shortest, many_sums, many_tags}
 use Rattle.script_decision.proofs.shortest_deciding.show.Goals.{in-Whole, in-Shortest+in_ok-show_page-in-Shortest, in-Pairs, in-Tags}
 use Rattle.script_decision.proofs.shortest_deciding.show.Goals as goal
 
