@@ -1,6 +1,6 @@
 //! Answers as they are shown.
 
-use script_decision::ShownPage;
+use crate::showing_pages::ShownPage;
 
 /// Whether each loose page of a program fits a pattern, as it is shown.
 #[derive(Debug, PartialEq, Eq, Drop)]

@@ -1,6 +1,6 @@
 //! Answers as they are shown.
 
-use script_decision::ShownPage;
+use crate::showing_pages::ShownPage;
 
 /// Whether each loose page of a program is good, and what is shown of a shortest one that is not.
 #[derive(Debug, PartialEq, Eq, Drop)]
