@@ -17,5 +17,4 @@ returns-in-Ok-clause-sound c =
 
 pub returns-in-Err-Large-clause-answer : goal.returns-in-Err-Large-clause-answer
 returns-in-Err-Large-clause-answer c =
-    many_items (table_of c.args.indexed.now.dtd.now) (program_of c.args.program.now) c.args.grammar.now c.in-Err-Large.items c.requires.grammar
-    (rw c.in-Err-Large.field-0-is at c.in-Err-Large.ensures.cause)
+    rw c.in-Err-Large.field-0-is (many_items (table_of c.args.indexed.now.dtd.now) (program_of c.args.program.now) c.args.grammar.now c.in-Err-Large.items c.requires.grammar (rw c.in-Err-Large.field-0-is at c.in-Err-Large.ensures.cause))
