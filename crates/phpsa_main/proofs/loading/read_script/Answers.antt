@@ -35,8 +35,8 @@ returns-in-Ok-definition-clause-reads g c =
       calm = c.in-Ok-definition.ensures.calm.0 ∙ loaded.source.unfailed;
     }
 
-pub returns-clause-reads : goal.returns-clause-reads
-returns-clause-reads g c =
+pub returns-in-Err-definition-clause-reads : goal.returns-in-Err-definition-clause-reads
+returns-in-Err-definition-clause-reads g c =
     let files =
     source_call (g.F.Files.content c.definition.new.files) (g.F.Files.faults c.args.files.now) (g.F.Files.faults c.definition.new.files) (g.F.Files.misses c.args.files.now) (g.F.Files.misses c.definition.new.files) (g.F.Files.reads c.args.files.now) (g.F.Files.reads c.definition.new.files) in
     let loaded = c.in-Ok.ensures.ok in
@@ -59,5 +59,5 @@ returns-clause-reads g c =
 pub returns-in-Ok-definition-clause-stays : goal.returns-in-Ok-definition-clause-stays
 returns-in-Ok-definition-clause-stays g c = stays_on _ _ _ c.load_script.ensures.stays c.definition.ensures.stays
 
-pub returns-clause-stays : goal.returns-clause-stays
-returns-clause-stays g c = stays_on _ _ _ c.load_script.ensures.stays c.definition.ensures.stays
+pub returns-in-Err-definition-clause-stays : goal.returns-in-Err-definition-clause-stays
+returns-in-Err-definition-clause-stays g c = stays_on _ _ _ c.load_script.ensures.stays c.definition.ensures.stays
