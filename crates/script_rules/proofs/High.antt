@@ -75,7 +75,7 @@ high_made (event.TheVariants.Token ∷ es) [] stack out e h = none_some e
 high_made (event.TheVariants.Token ∷ es) (k ∷ ks) stack out e h = high_made es ks (judged.leaf k ∷ stack) out e h
 high_made (event.TheVariants.Rule p ∷ es) ks stack out e h = high_rule (make php.grammar judged es) (high_made es) ks p stack out (slice_get php.grammar.rules p) e h
 
-no_kinds : (ts : List PlainToken) → kinds judged ts ≡ [] → ts ≡ []
+pub no_kinds : (ts : List PlainToken) → kinds judged ts ≡ [] → ts ≡ []
 no_kinds [] e = refl
 no_kinds (t ∷ ts) e = absurd (full e)
   where

@@ -1,3 +1,4 @@
 pub mod Judged
 pub mod Whole
 pub mod High
+pub mod Either

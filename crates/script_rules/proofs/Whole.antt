@@ -65,13 +65,13 @@ or_other : (o p : Option LeftOut) → SomeLeftOut p → SomeLeftOut (or_else o p
 or_other None p h = h
 or_other (Some k) p h = record { found = k; is = refl }
 
-own_some : (f : _) (at : ℕ) (ps : List Part) (o : Option Value) → SomeLeftOut (own_left_out f at ps o)
-own_some f at ps None = or_some (first_misplaced ps) (record { form = f; at = at })
-own_some f at ps (Some v) = record { found = _; is = refl }
+own_some : (p at : ℕ) (ps : List Part) (o : Option Value) → SomeLeftOut (own_left_out p at ps o)
+own_some p at ps None = or_some (first_misplaced ps) (record { form = form_by p; at = at })
+own_some p at ps (Some v) = record { found = _; is = refl }
 
 left_out_none : (p : ℕ) (ps : List Part) (outside : Bool) → SomeLeftOut (left_out_by p ps outside None)
 left_out_none p ps true = or_some (left_out_before (continues (slice_get RULES p)) ps) (record { form = form_by p; at = own_place (continues (slice_get RULES p)) ps })
-left_out_none p ps false = or_other (first_left_out ps) _ (own_some (form_by p) (own_place (continues (slice_get RULES p)) ps) ps (and_then (all_values ps) (act p)))
+left_out_none p ps false = or_other (first_left_out ps) _ (own_some p (own_place (continues (slice_get RULES p)) ps) ps (and_then (all_values ps) (act p)))
 
 left_out_some : (p : ℕ) (ps : List Part) (outside : Bool) (o : Option Value) → o ≡ None → SomeLeftOut (left_out_by p ps outside o)
 left_out_some p ps outside None e = left_out_none p ps outside

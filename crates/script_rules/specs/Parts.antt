@@ -143,16 +143,15 @@ abbrev pub left_out_before : Bool → List Part → Option LeftOut
 left_out_before true ps = first_left_out (take 1 ps)
 left_out_before false ps = None
 
--- the form of a function or of a file that breaks a rule beside the grammar, and of another value
-abbrev pub broken_form : Form → Value → Form
-broken_form f (function g) = form.Jump
-broken_form f (file t) = form.Jump
-broken_form f _ = f
+-- the form of what breaks a rule beside the grammar: of a function it is a `break` outside of loops
+abbrev pub broken_form : Action → Form → Form
+broken_form action.Function f = form.Jump
+broken_form _ f = f
 
 -- what is left out where the parts of a rule stand for something and it does not: it makes nothing, or what breaks a rule
-abbrev pub own_left_out : Form → ℕ → List Part → Option Value → Option LeftOut
-own_left_out f at ps None = or_else (first_misplaced ps) (Some (record { form = f; at = at }))
-own_left_out f at ps (Some v) = Some (record { form = broken_form f v; at = at })
+abbrev pub own_left_out : ℕ → ℕ → List Part → Option Value → Option LeftOut
+own_left_out p at ps None = or_else (first_misplaced ps) (Some (record { form = form_by p; at = at }))
+own_left_out p at ps (Some v) = Some (record { form = broken_form (action_by p) (form_by p); at = at })
 
 -- whether a rule is outside of the language
 abbrev pub is_outside : Action → Bool
@@ -166,7 +165,7 @@ left_out_by p ps outside (Some v) = None
 left_out_by p ps true None =
     or_else (left_out_before (continues (slice_get RULES p)) ps) (Some (record { form = form_by p; at = own_place (continues (slice_get RULES p)) ps }))
 left_out_by p ps false None =
-    or_else (first_left_out ps) (own_left_out (form_by p) (own_place (continues (slice_get RULES p)) ps) ps (and_then (all_values ps) (act p)))
+    or_else (first_left_out ps) (own_left_out p (own_place (continues (slice_get RULES p)) ps) ps (and_then (all_values ps) (act p)))
 
 -- what a rule makes of its parts
 abbrev pub value_by : ℕ → List Part → Option Value

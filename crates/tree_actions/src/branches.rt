@@ -1,0 +1,94 @@
+//! What the rules of branches make of values.
+
+ghost use Rattle.std.specs.Prelude.{◌≡◌, ◌<◌, ◌+◌, max, reverse, Some, None, IfOk, MatchOption};
+ghost use Rattle.std.specs.Option.{option_map};
+ghost use Rattle.text_base.specs.declared.limits.TheConstants.{HEIGHT_LIMIT};
+ghost use Rattle.php_syntax.specs.Trees.{plain_expr, stmts_of, arms_of, more_arms, no_arms, no_stmts, if_stmt};
+ghost use Rattle.php_syntax.specs.Height as highs;
+ghost use Rattle.php_trees.specs.Values as plain;
+ghost use Rattle.php_trees.specs.Actions.{armed, armed_whole, other_of, of_three};
+ghost use Rattle.tree_values.specs.Shown.{plain_value, Makes};
+
+use std::alloc::Global;
+use text_base::NoMemory;
+use text_base::limits::HEIGHT_LIMIT;
+use tree_values::trees::{Arms, Body, Branch, Operand};
+use tree_values::value::{Made, Value};
+
+/// A condition and its statements before further arms, which may go on.
+pub(crate) fn arm<'a>(
+    alloc: Global,
+    condition: Value<'a>,
+    body: Value<'a>,
+    rest: Value<'a>,
+) -> Result<Made<'a>, NoMemory>
+    ensures { IfOk result (λ made. Makes made (of_three armed (plain.whole_of (plain_value condition.entry))
+        (plain.stmts_of (plain_value body.entry)) (plain.branch_of (plain_value rest.entry)))) }
+{
+    let Some(condition) = condition.whole(alloc)? else {
+        return Ok(Made::Nothing);
+    };
+    let Some(body) = body.stmts(alloc)? else {
+        return Ok(Made::Nothing);
+    };
+    let Some(rest) = rest.branch() else {
+        return Ok(Made::Nothing);
+    };
+    match rest.with(condition, body)? {
+        Some(branch) => Ok(Made::Value(Value::Branch(branch))),
+        None => Ok(Made::High),
+    }
+}
+
+/// The same where no arm can follow.
+pub(crate) fn whole_arm<'a>(
+    alloc: Global,
+    condition: Value<'a>,
+    body: Value<'a>,
+    rest: Value<'a>,
+) -> Result<Made<'a>, NoMemory>
+    ensures { IfOk result (λ made. Makes made (of_three armed_whole (plain.whole_of (plain_value condition.entry))
+        (plain.stmts_of (plain_value body.entry)) (plain.branch_of (plain_value rest.entry)))) }
+{
+    let Some(condition) = condition.whole(alloc)? else {
+        return Ok(Made::Nothing);
+    };
+    let Some(body) = body.stmts(alloc)? else {
+        return Ok(Made::Nothing);
+    };
+    let Some(rest) = rest.branch() else {
+        return Ok(Made::Nothing);
+    };
+    match rest.with(condition, body)? {
+        Some(branch) => Ok(Made::Value(Value::Stmts(branch.into_body(alloc)?))),
+        None => Ok(Made::High),
+    }
+}
+
+/// What stands behind `else` in the form with colons.
+pub(crate) fn others<'a>(alloc: Global, body: Value<'a>) -> Result<Made<'a>, NoMemory>
+    ensures { IfOk result (λ made. Makes made
+        (option_map (plain.branch no_arms) (plain.stmts_of (plain_value body.entry)))) }
+{
+    let Some(body) = body.stmts(alloc)? else {
+        return Ok(Made::Nothing);
+    };
+    match Branch::only(alloc, body) {
+        Some(branch) => Ok(Made::Value(Value::Branch(branch))),
+        None => Ok(Made::High),
+    }
+}
+
+/// What stands behind `else`: an `if` is one more arm.
+pub(crate) fn other<'a>(alloc: Global, body: Value<'a>) -> Result<Made<'a>, NoMemory>
+    ensures { IfOk result (λ made. Makes made (other_of (plain_value body.entry))) }
+{
+    match body {
+        Value::Branch(branch) => Ok(Made::Value(Value::Branch(branch))),
+        Value::Stmts(body) => others(alloc, Value::Stmts(body)),
+        Value::Leaf(_) | Value::Absent | Value::Quotes | Value::Exprs(_) => Ok(Made::Nothing),
+        Value::Arguments(_) | Value::Items(..) | Value::Expr(_) => Ok(Made::Nothing),
+        Value::Place(_) | Value::Alone(_) | Value::Params(_) => Ok(Made::Nothing),
+        Value::Function(_) | Value::File(_) => Ok(Made::Nothing),
+    }
+}

@@ -1,0 +1,179 @@
+//! What the rules of variables, of writes and of what looks at variables make of values.
+
+ghost use Rattle.std.specs.Prelude.{◌≡◌, true, false, Bool, codes, Some, None, IfOk, MatchOption};
+ghost use Rattle.std.specs.Option.{option_map};
+ghost use Rattle.php_syntax.specs.Trees.{isset_expr, empty_expr, call_expr, more_exprs, no_exprs, maybe_of, path_of, more_keys, no_keys};
+ghost use Rattle.script_grammar.specs.Operators.{update_sign, step_sign};
+ghost use Rattle.php_trees.specs.Values as plain;
+ghost use Rattle.php_trees.specs.Actions as actions;
+ghost use Rattle.php_trees.specs.Actions.{of_two, and_then};
+ghost use Rattle.tree_values.specs.Shown.{plain_value, Makes};
+
+use crate::expressions::{loose, usual};
+use script_grammar::operator::{step_of, update_of};
+use std::alloc::Global;
+use text_base::{Bytes, NoMemory};
+use tree_values::nodes::{assign, call, empty, isset, member, step, update};
+use tree_values::trees::{Operand, Optional, Place, Row};
+use tree_values::value::{Made, Value};
+
+/// A variable without keys.
+pub(crate) fn variable<'a>(alloc: Global, token: Value<'a>) -> Made<'a>
+    ensures { Makes result (option_map (λ x. plain.place x no_keys) (plain.variable_of (plain_value token.entry))) }
+{
+    let Some(name) = token.variable() else {
+        return Made::Nothing;
+    };
+    match Place::new(alloc, name) {
+        Some(place) => Made::Value(Value::Place(place)),
+        None => Made::Broken,
+    }
+}
+
+// A variable with one more key.
+#[tactic(auto, using(crate::proofs::BuiltLemmas::high_place))]
+fn with_key<'a>(place: Place<'a>, key: Optional) -> Result<Made<'a>, NoMemory>
+    ensures { IfOk result (λ made. Makes made (Some (plain.place place.entry.name.now
+        (plain.path_and (path_of place.entry.keys.items) (more_keys (maybe_of key.tree) no_keys))))) }
+{
+    match place.with(key)? {
+        Some(place) => Ok(Made::Value(Value::Place(place))),
+        None => Ok(Made::High),
+    }
+}
+
+/// A member by a key.
+pub(crate) fn member_value<'a>(
+    alloc: Global,
+    array: Value<'a>,
+    key: Value<'a>,
+) -> Result<Made<'a>, NoMemory>
+    ensures { IfOk result (λ made. Makes made (and_then (plain.whole_of (plain_value key.entry))
+        (actions.member_of (plain_value array.entry)))) }
+{
+    let Some(key) = key.whole(alloc)? else {
+        return Ok(Made::Nothing);
+    };
+    match array {
+        Value::Place(place) => with_key(place, key.optional()),
+        Value::Expr(spelled) => {
+            let array = spelled.whole(alloc)?;
+            Ok(usual(member(alloc, array, key)?))
+        }
+        Value::Leaf(_) | Value::Absent | Value::Quotes | Value::Alone(_) => Ok(Made::Nothing),
+        Value::Exprs(_) | Value::Arguments(_) | Value::Items(..) => Ok(Made::Nothing),
+        Value::Stmts(_) | Value::Branch(_) | Value::Params(_) => Ok(Made::Nothing),
+        Value::Function(_) | Value::File(_) => Ok(Made::Nothing),
+    }
+}
+
+/// A place for a new member.
+pub(crate) fn open_member<'a>(array: Value<'a>) -> Result<Made<'a>, NoMemory>
+    ensures { IfOk result (λ made. Makes made (actions.open_member_of (plain_value array.entry))) }
+{
+    match array {
+        Value::Place(place) => with_key(place, Optional::none()),
+        Value::Leaf(_) | Value::Absent | Value::Quotes | Value::Alone(_) => Ok(Made::Nothing),
+        Value::Exprs(_) | Value::Arguments(_) | Value::Items(..) => Ok(Made::Nothing),
+        Value::Stmts(_) | Value::Branch(_) | Value::Params(_) => Ok(Made::Nothing),
+        Value::Function(_) | Value::File(_) | Value::Expr(_) => Ok(Made::Nothing),
+    }
+}
+
+/// An assignment.
+pub(crate) fn assigned<'a>(
+    alloc: Global,
+    target: Value<'a>,
+    value: Value<'a>,
+) -> Result<Made<'a>, NoMemory>
+    ensures { IfOk result (λ made. Makes made (actions.assigned (plain_value target.entry)
+        (plain.whole_of (plain_value value.entry)))) }
+{
+    let Some(place) = target.place() else {
+        return Ok(Made::Nothing);
+    };
+    let Some(value) = value.whole(alloc)? else {
+        return Ok(Made::Nothing);
+    };
+    Ok(loose(assign(alloc, place, value)?))
+}
+
+/// An assignment that reads its target first.
+pub(crate) fn updated<'a>(
+    alloc: Global,
+    target: Value<'a>,
+    sign: Value<'a>,
+    value: Value<'a>,
+) -> Result<Made<'a>, NoMemory>
+    ensures { IfOk result (λ made. Makes made (actions.updated (plain_value target.entry)
+        (plain.sign_of (plain_value sign.entry)) (plain.whole_of (plain_value value.entry)))) }
+{
+    let Some(place) = target.place() else {
+        return Ok(Made::Nothing);
+    };
+    let Some(sign) = sign.sign() else {
+        return Ok(Made::Nothing);
+    };
+    let Some(sign) = update_of(sign) else {
+        return Ok(Made::Nothing);
+    };
+    let Some(value) = value.whole(alloc)? else {
+        return Ok(Made::Nothing);
+    };
+    Ok(loose(update(alloc, sign, place, value)?))
+}
+
+/// `++` or `--` of a variable.
+pub(crate) fn stepped<'a>(
+    alloc: Global,
+    before: bool,
+    target: Value<'a>,
+    sign: Value<'a>,
+) -> Result<Made<'a>, NoMemory>
+    ensures { IfOk result (λ made. Makes made (actions.stepped before (plain_value target.entry)
+        (plain_value sign.entry))) }
+{
+    let Some(name) = target.variable() else {
+        return Ok(Made::Nothing);
+    };
+    let Some(sign) = sign.sign() else {
+        return Ok(Made::Nothing);
+    };
+    let Some(up) = step_of(sign) else {
+        return Ok(Made::Nothing);
+    };
+    Ok(usual(step(alloc, name, up, before)?))
+}
+
+/// `isset` of operands.
+pub(crate) fn isset_value<'a>(exprs: Value<'a>) -> Made<'a>
+    ensures { Makes result (option_map (λ es. plain.expr plain.usual (isset_expr es)) (plain.exprs_of (plain_value exprs.entry))) }
+{
+    match exprs.exprs() {
+        Some(row) => usual(isset(row)),
+        None => Made::Nothing,
+    }
+}
+
+/// `empty` of an operand.
+pub(crate) fn empty_value<'a>(alloc: Global, value: Value<'a>) -> Result<Made<'a>, NoMemory>
+    ensures { IfOk result (λ made. Makes made (option_map (λ e. plain.expr plain.usual (empty_expr e)) (plain.whole_of (plain_value value.entry)))) }
+{
+    match value.whole(alloc)? {
+        Some(operand) => Ok(usual(empty(alloc, operand)?)),
+        None => Ok(Made::Nothing),
+    }
+}
+
+/// `eval` of an operand, which is a call.
+pub(crate) fn eval_value<'a>(alloc: Global, value: Value<'a>) -> Result<Made<'a>, NoMemory>
+    ensures { IfOk result (λ made. Makes made (option_map
+        (λ e. plain.expr plain.usual (call_expr (codes "eval") (more_exprs e no_exprs))) (plain.whole_of (plain_value value.entry)))) }
+{
+    let Some(operand) = value.whole(alloc)? else {
+        return Ok(Made::Nothing);
+    };
+    let name = Bytes::from_slice(alloc, b"eval")?;
+    let row = Row::empty(alloc).with(operand)?;
+    Ok(usual(call(name, row)))
+}

@@ -1,0 +1,105 @@
+-- Names of parameters.
+use Rattle.std.proofs.Common.{◌≡◌, ℕ, zero, suc, ◌+◌, ◌<◌, Bool, true, false, List, [], ◌∷◌, ◌++◌, refl, ap, ◌∙◌, sym, subst, arith}
+use Rattle.std.specs.Prelude.{◌&&◌, ◌||◌, not, max, map, nat_eq, if◌then◌else◌}
+use Rattle.std.specs.List.{list_any}
+use Rattle.std.specs.Cmp.Lexicographic.{pointwise}
+use Rattle.std.proofs.lemmas.Bool.{false≢true}
+use Rattle.std.proofs.lemmas.List.{map-append}
+use Rattle.indexmap.specs.IndexSet.{insert_key}
+use Rattle.php_syntax.specs.declared.tree.Param.{Param}
+use Rattle.php_syntax.specs.Trees.{PlainParam, plain_param, params_of_list, maybe_of}
+use Rattle.php_syntax.specs.Height.{params_height, maybe_height}
+use Rattle.script_grammar.specs.Terminals.{same_bytes}
+use Rattle.script_grammar.specs.Rules.{is_new_name, is_writable, params_fit}
+use Rattle.tree_values.proofs.NodeLemmas.{both, first_of, second_of}
+
+pub params_append : (ps qs : List Param) → params_of_list (ps ++ qs) ≡ params_of_list ps ++ params_of_list qs
+params_append [] qs = refl
+params_append (p ∷ ps) qs = ap (λ (rs : List PlainParam). plain_param p ∷ rs) (params_append ps qs)
+
+max_three : (a b c : ℕ) → max a (max b c) ≡ max (max a b) c
+max_three a b c = omega arith
+
+pub params_append_high : (ps qs : List PlainParam) → params_height (ps ++ qs) ≡ max (params_height ps) (params_height qs)
+params_append_high [] qs = omega arith
+params_append_high (p ∷ ps) qs = ap (max (1 + maybe_height p.default_of)) (params_append_high ps qs) ∙ max_three (1 + maybe_height p.default_of) (params_height ps) (params_height qs)
+
+-- whether a name is new
+neither : (a b : Bool) → not (a || b) ≡ (not a && not b)
+neither true b = refl
+neither false b = refl
+
+pub new_name : (x : List ℕ) (ps : List Param) → not (list_any (pointwise nat_eq x) (map (λ p. p.name) ps)) ≡ is_new_name x (params_of_list ps)
+new_name x [] = refl
+new_name x (p ∷ ps) = neither (pointwise nat_eq x p.name) (list_any (pointwise nat_eq x) (map (λ q. q.name) ps)) ∙ ap (λ b. not (pointwise nat_eq x p.name) && b) (new_name x ps)
+
+-- a name that is new goes last
+goes_last : (test : Bool) (names : List (List ℕ)) (x : List ℕ) → not test ≡ true → (if test then names else (names ++ x ∷ [])) ≡ names ++ x ∷ []
+goes_last true names x e = absurd (false≢true e)
+goes_last false names x e = refl
+
+pub inserted : (x : List ℕ) (ps : List Param) (names : List (List ℕ)) → names ≡ map (λ p. p.name) ps → not (list_any (pointwise nat_eq x) names) ≡ true
+    → (p : Param) → p.name ≡ x → insert_key (pointwise nat_eq) names x ≡ map (λ q. q.name) (ps ++ p ∷ [])
+inserted x ps names e new p is =
+    goes_last (list_any (pointwise nat_eq x) names) names x new ∙ ap (λ ns. ns ++ x ∷ []) e ∙ ap (λ y. map (λ q. q.name) ps ++ y ∷ []) (sym is) ∙ sym (map-append (λ q. q.name) ps (p ∷ []))
+
+-- what the set says of a name
+pub said_new : (x y : List ℕ) (ps : List Param) (names : List (List ℕ)) (b : Bool) → names ≡ map (λ p. p.name) ps → y ≡ x → b ≡ not (list_any (pointwise nat_eq y) names) → is_new_name x (params_of_list ps) ≡ b
+said_new x y ps names b named same added =
+    sym (added ∙ ap (λ ns. not (list_any (pointwise nat_eq y) ns)) named ∙ new_name y ps ∙ ap (λ z. is_new_name z (params_of_list ps)) same)
+
+-- lists of bytes are the same both ways
+same_nat : (a b : ℕ) → nat_eq a b ≡ nat_eq b a
+same_nat zero zero = refl
+same_nat zero (suc b) = refl
+same_nat (suc a) zero = refl
+same_nat (suc a) (suc b) = same_nat a b
+
+same_both : (a b : List ℕ) → same_bytes a b ≡ same_bytes b a
+same_both [] [] = refl
+same_both [] (y ∷ b) = refl
+same_both (x ∷ a) [] = refl
+same_both (x ∷ a) (y ∷ b) = ap (λ (t : Bool). t && pointwise nat_eq a b) (same_nat x y) ∙ ap (λ (t : Bool). nat_eq y x && t) (same_both a b)
+
+-- a name is new to two lists where it is new to each
+new_append : (x : List ℕ) (ps qs : List PlainParam) → is_new_name x (ps ++ qs) ≡ (is_new_name x ps && is_new_name x qs)
+new_append x [] qs = refl
+new_append x (p ∷ ps) qs = ap (λ (t : Bool). not (same_bytes x p.name_of) && t) (new_append x ps qs) ∙ moved (not (same_bytes x p.name_of)) (is_new_name x ps) (is_new_name x qs)
+  where
+    moved : (a b c : Bool) → (a && (b && c)) ≡ ((a && b) && c)
+    moved true b c = refl
+    moved false b c = refl
+
+-- parameters, and one whose name is new
+pub with_new : (ps : List PlainParam) (q : PlainParam) → params_fit ps ≡ true → is_writable q.name_of ≡ true → is_new_name q.name_of ps ≡ true → params_fit (ps ++ q ∷ []) ≡ true
+with_new [] q h i j = both i refl
+with_new (p ∷ ps) q h i j =
+    both (first_of h) (both (new_append p.name_of ps (q ∷ []) ∙ both (first_of (second_of h)) (both (ap not (same_both p.name_of q.name_of) ∙ first_of j) refl)) (with_new ps q (second_of (second_of h)) i (second_of j)))
+
+not_shut : (a b c : Bool) → a ≡ false → (b && (a && c)) ≡ false
+not_shut a true c e = ap (λ (t : Bool). t && c) e
+not_shut a false c e = refl
+
+last_shut : (a b c : Bool) → c ≡ false → (a && (b && c)) ≡ false
+last_shut true true c e = e
+last_shut true false c e = refl
+last_shut false b c e = refl
+
+and_false : (a b : Bool) → (a && b) ≡ false → a ≡ true → b ≡ false
+and_false true b e h = e
+and_false false b e h = refl_of h
+  where
+    refl_of : false ≡ true → b ≡ false
+    refl_of e = absurd (false≢true e)
+
+-- and where it is not new
+pub with_old : (ps : List PlainParam) (q : PlainParam) (rest : List PlainParam) → is_new_name q.name_of ps ≡ false → params_fit (ps ++ q ∷ rest) ≡ false
+with_old [] q rest e = absurd (false≢true (sym e))
+with_old (p ∷ ps) q rest e = by_test (same_bytes q.name_of p.name_of) refl
+  where
+    by_test : (t : Bool) → same_bytes q.name_of p.name_of ≡ t → params_fit (p ∷ (ps ++ q ∷ rest)) ≡ false
+    by_test true is = not_shut (is_new_name p.name_of (ps ++ q ∷ rest)) (is_writable p.name_of) (params_fit (ps ++ q ∷ rest)) (new_append p.name_of ps (q ∷ rest) ∙ shut (is_new_name p.name_of ps) (ap not (same_both p.name_of q.name_of ∙ is)))
+      where
+        shut : (a : Bool) → not (same_bytes p.name_of q.name_of) ≡ false → (a && (not (same_bytes p.name_of q.name_of) && is_new_name p.name_of rest)) ≡ false
+        shut a e = not_shut (not (same_bytes p.name_of q.name_of)) a (is_new_name p.name_of rest) e
+    by_test false is = last_shut (is_writable p.name_of) (is_new_name p.name_of (ps ++ q ∷ rest)) (params_fit (ps ++ q ∷ rest)) (with_old ps q rest (and_false (not (same_bytes q.name_of p.name_of)) (is_new_name q.name_of ps) e (ap not is)))

@@ -1,0 +1,119 @@
+//! Parameters of functions.
+
+ghost use Rattle.std.specs.Prelude.{◌≡◌, ◌<◌, ◌+◌, ◌++◌, [], ◌∷◌, true, false, Some, None, IfOk, MatchOption, map};
+ghost use Rattle.php_syntax.specs.Trees.{maybe_of, params_of_list};
+ghost use Rattle.script_grammar.specs.Rules.{params_fit};
+ghost use Rattle.php_trees.specs.Actions as actions;
+ghost use Rattle.tree_values.specs.Named.{Names};
+ghost use Rattle.tree_values.specs.Shown.{plain_value};
+
+use crate::trees::{Optional, Params};
+use crate::value::{Spelled, Value};
+use indexmap::IndexSet;
+use php_syntax::tree::Param;
+use script_grammar::reserved::is_writable;
+use std::alloc::Global;
+use text_base::limits::HEIGHT_LIMIT;
+use text_base::{Bytes, NoMemory};
+
+/// A parameter of a name, if it may be one.
+#[derive(Debug, Drop)]
+pub enum Named {
+    /// The parameter.
+    Params(Params),
+    /// It may not be written.
+    Broken,
+    /// It is over 200 high.
+    High,
+}
+
+impl Params {
+    /// No parameters. Takes no memory.
+    pub fn empty(alloc: Global) -> Params
+        ensures { params_of_list result.params.items ≡ [] }
+    {
+        Params {
+            params: Vec::new(alloc),
+            names: IndexSet::new(alloc),
+            height: 0,
+        }
+    }
+
+    /// The parameter of this name and default; None where it may not be written.
+    pub fn one(alloc: Global, name: &Bytes, default: Optional) -> Result<Named, NoMemory>
+        ensures { IfOk result (λ named. Names named name.now (maybe_of default.tree)) }
+    {
+        if !is_writable(name.as_slice()) {
+            return Ok(Named::Broken);
+        }
+        if default.height >= HEIGHT_LIMIT {
+            return Ok(Named::High);
+        }
+        let mut names = IndexSet::new(alloc);
+        names.insert(name.copy(alloc)?)?;
+        let param = Param {
+            name: name.copy(alloc)?,
+            default: default.tree,
+        };
+        let mut params = Vec::new(alloc);
+        params.push(param)?;
+        Ok(Named::Params(Params {
+            params,
+            names,
+            height: default.height + 1,
+        }))
+    }
+
+    /// These parameters, and then others; None where two have one name.
+    pub fn and(self, alloc: Global, others: Params) -> Result<Option<Params>, NoMemory>
+        ensures { IfOk result (λ found. MatchOption found
+            (params_fit (params_of_list self.params.items ++ params_of_list others.params.items) ≡ false)
+            (λ ps. params_of_list ps.params.items
+            ≡ params_of_list self.params.items ++ params_of_list others.params.items)) }
+    {
+        let height = self.height.max(others.height);
+        let mut params = self.params;
+        let mut names = self.names;
+        'more: for param in others.params {
+            if !names.insert(param.name.copy(alloc)?)? {
+                return Ok(None);
+            }
+            params.push(param)?;
+        }
+        Ok(Some(Params {
+            params,
+            names,
+            height,
+        }))
+    }
+}
+
+impl<'a> Value<'a> {
+    /// The default of a parameter, which is a literal, if it has one.
+    pub fn default(self, alloc: Global) -> Result<Option<Optional>, NoMemory>
+        ensures { IfOk result (λ found. MatchOption found
+            (actions.default_of_value (plain_value self.entry) ≡ None)
+            (λ m. actions.default_of_value (plain_value self.entry) ≡ Some (maybe_of m.tree))) }
+    {
+        match self {
+            Value::Absent => Ok(Some(Optional::none())),
+            Value::Expr(spelled) => match spelled {
+                Spelled::Digits(number) => {
+                    let operand = Spelled::Digits(number).whole(alloc)?;
+                    Ok(Some(operand.optional()))
+                }
+                Spelled::Quoted(bytes) => {
+                    let operand = Spelled::Quoted(bytes).whole(alloc)?;
+                    Ok(Some(operand.optional()))
+                }
+                Spelled::Literal(operand) => Ok(Some(operand.optional())),
+                Spelled::Bracketed(_) | Spelled::Chain(_) | Spelled::Choice(_) => Ok(None),
+                Spelled::Loose(_) | Spelled::Usual(_) => Ok(None),
+            },
+            Value::Leaf(_) | Value::Place(_) | Value::Quotes | Value::Alone(_) => Ok(None),
+            Value::Exprs(_) | Value::Arguments(_) | Value::Items(..) => Ok(None),
+            Value::Stmts(_) | Value::Branch(_) | Value::Params(_) => Ok(None),
+            Value::Function(_) | Value::File(_) => Ok(None),
+        }
+    }
+}
