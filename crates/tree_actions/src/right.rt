@@ -7,7 +7,7 @@ ghost use Rattle.tree_values.specs.Shown.{plain_value};
 use tree_values::value::Value;
 
 /// The values of the right side of a rule, by their places; `Absent` where it has fewer symbols.
-#[derive(Debug, Drop)]
+#[derive(Drop)]
 pub struct Right<'a> {
     pub(crate) first: Value<'a>,
     pub(crate) second: Value<'a>,

@@ -28,7 +28,7 @@ use text_base::{NoMemory, Stack};
 use tree_values::value::Value;
 
 /// What a derivation is read as.
-#[derive(Debug, Drop)]
+#[derive(Drop)]
 pub enum Outcome {
     /// This tree.
     File(FileTree),
@@ -50,7 +50,7 @@ enum Step {
 }
 
 // The parts that were made so far, and the tokens that are left.
-#[derive(Debug, Drop)]
+#[derive(Drop)]
 struct Builder<'a> {
     stack: Stack<Part<'a>>,
     rest: &'a [Token],

@@ -22,7 +22,7 @@ pub struct LeftOut {
 }
 
 /// A part of a script.
-#[derive(Debug, Drop)]
+#[derive(Drop)]
 pub struct Part<'a> {
     /// Where its first token stands, if it has one.
     pub begins: Option<u32>,
@@ -48,7 +48,7 @@ pub(crate) struct Summary {
 }
 
 /// What matters of the parts of a rule.
-#[derive(Debug, Drop)]
+#[derive(Drop)]
 pub(crate) struct Gathered<'a> {
     /// Where they begin, and what is left out of them.
     pub(crate) summary: Summary,

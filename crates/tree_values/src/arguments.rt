@@ -7,8 +7,9 @@ ghost use Rattle.php_trees.specs.Actions as actions;
 ghost use Rattle.tree_values.specs.Outsides.{is_flag, is_charset, is_spelled_out};
 ghost use Rattle.tree_values.specs.Shown.{plain_argument};
 
+use crate::nodes::text;
 use crate::trees::{Operand, Row};
-use crate::value::{Argument, Spelled};
+use crate::value::Argument;
 use std::alloc::Global;
 use text_base::NoMemory;
 
@@ -40,7 +41,7 @@ impl<'a> Argument<'a> {
             (λ o. (s : plain.Spelling) × (plain_argument self.entry ≡ plain.given s (plain_expr o.tree)))) }
     {
         match self {
-            Argument::Text(text) => Ok(Some(Spelled::Quoted(text).whole(alloc)?)),
+            Argument::Text(bytes) => Ok(Some(text(alloc, bytes)?)),
             Argument::Given(_, operand) => Ok(Some(operand)),
             Argument::QuotesFlag => Ok(None),
         }

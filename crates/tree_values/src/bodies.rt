@@ -6,6 +6,7 @@ ghost use Rattle.php_syntax.specs.Trees.{plain_expr, stmts_of, arms_of, no_stmts
 ghost use Rattle.php_syntax.specs.Height as highs;
 ghost use Rattle.php_trees.specs.Values.{stmts_and};
 
+use crate::flags::either;
 use crate::trees::{Arms, Body, Branch, Operand};
 use php_syntax::tree::Stmt;
 use std::alloc::Global;
@@ -33,8 +34,8 @@ impl Body {
             ≡ stmts_and (stmts_of self.stmts.items) (stmts_of others.stmts.items)) }
     {
         let height = self.height.max(others.height);
-        let needs_loop = self.needs_loop || others.needs_loop;
-        let needs_function = self.needs_function || others.needs_function;
+        let needs_loop = either(self.needs_loop, others.needs_loop);
+        let needs_function = either(self.needs_function, others.needs_function);
         let mut stmts = self.stmts;
         let mut more = others.stmts;
         stmts.append(&mut more)?;
@@ -55,8 +56,8 @@ impl Branch {
             ≡ more_stmts (if_stmt (arms_of (reverse self.arms.arms.items)) (stmts_of self.others.stmts.items)) no_stmts) }
     {
         let height = self.arms.height.max(self.others.height) + 1;
-        let needs_loop = self.arms.needs_loop || self.others.needs_loop;
-        let needs_function = self.arms.needs_function || self.others.needs_function;
+        let needs_loop = either(self.arms.needs_loop, self.others.needs_loop);
+        let needs_function = either(self.arms.needs_function, self.others.needs_function);
         let mut arms = self.arms.arms;
         arms.as_mut_slice().reverse();
         let mut stmts = Vec::new(alloc);
@@ -106,8 +107,8 @@ impl Branch {
         }
         let Branch { arms, others } = self;
         let height = own.max(arms.height);
-        let needs_loop = body.needs_loop || arms.needs_loop;
-        let needs_function = body.needs_function || arms.needs_function;
+        let needs_loop = either(body.needs_loop, arms.needs_loop);
+        let needs_function = either(body.needs_function, arms.needs_function);
         let mut all = arms.arms;
         all.push((condition.tree, body.stmts))?;
         let arms = Arms {

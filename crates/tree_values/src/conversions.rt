@@ -6,32 +6,13 @@ ghost use Rattle.php_trees.specs.Values as plain;
 ghost use Rattle.php_trees.specs.Actions as actions;
 ghost use Rattle.tree_values.specs.Shown.{plain_spelled, plain_value, plain_argument};
 
-use crate::nodes::join;
+use crate::nodes::{integer, join, text};
 use crate::places::read;
 use crate::trees::{Body, Branch, File, Items, Operand, Optional, Params, Place, Row};
 use crate::value::{Argument, Spelled, Spelling, Value};
 use php_syntax::token::{Sign, TokenKind};
-use php_syntax::tree::Expr;
 use std::alloc::Global;
 use text_base::{Bytes, NoMemory};
-
-// A text literal.
-#[tactic(auto, using(php_syntax::proofs::Views::views), unfolding(php_syntax::specs::Height::height, script_grammar::specs::Rules::expr_fits))]
-fn text(alloc: Global, text: &Bytes) -> Result<Operand, NoMemory>
-    ensures { IfOk result (λ o. plain_expr o.tree ≡ text_expr text.now) }
-{
-    let tree = Expr::Text(text.copy(alloc)?);
-    Ok(Operand { tree, height: 1 })
-}
-
-// An integer literal.
-#[tactic(auto, using(php_syntax::proofs::Views::views), unfolding(php_syntax::specs::Height::height, script_grammar::specs::Rules::expr_fits))]
-fn integer(number: i64) -> Operand
-    ensures { plain_expr result.tree ≡ int_expr number }
-{
-    let tree = Expr::Int(number);
-    Operand { tree, height: 1 }
-}
 
 impl<'a> Spelled<'a> {
     /// The expression.
@@ -333,7 +314,8 @@ impl<'a> Value<'a> {
     /// The variable with keys that this is, if it is one.
     pub fn place(self) -> Option<Place<'a>>
         ensures { MatchOption result
-            ((e : _) (f : _) → (actions.assigned (plain_value self.entry) e ≡ None) × (actions.updated (plain_value self.entry) f e ≡ None))
+            ((actions.open_member_of (plain_value self.entry) ≡ None)
+            × ((e : _) (f : _) → (actions.assigned (plain_value self.entry) e ≡ None) × (actions.updated (plain_value self.entry) f e ≡ None)))
             (λ p. plain_value self.entry ≡ plain.place p.name.now (path_of p.keys.items)) }
     {
         match self {

@@ -4,7 +4,9 @@
 
 pub mod arguments;
 pub mod bodies;
+pub mod choices;
 pub mod conversions;
+mod flags;
 pub mod nodes;
 pub mod outsides;
 pub mod params;

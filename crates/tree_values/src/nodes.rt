@@ -2,7 +2,7 @@
 
 ghost use Rattle.std.specs.Prelude.{◌≡◌, ◌+◌, true, max, codes, IfOk};
 ghost use Rattle.std.specs.Str.{str_to_ascii_lowercase};
-ghost use Rattle.php_syntax.specs.Trees.{plain_expr, exprs_of, items_of, maybe_of, path_of, join_expr, member_expr, array_expr, coalesce_expr, choice_expr, isset_expr, empty_expr, assign_expr, update_expr, step_expr, call_expr, no_expr, some_expr, more_exprs, no_exprs};
+ghost use Rattle.php_syntax.specs.Trees.{plain_expr, text_expr, int_expr, exprs_of, items_of, maybe_of, path_of, join_expr, member_expr, array_expr, coalesce_expr, choice_expr, isset_expr, empty_expr, assign_expr, update_expr, step_expr, call_expr, no_expr, some_expr, more_exprs, no_exprs};
 ghost use Rattle.php_syntax.specs.Height as highs;
 ghost use Rattle.script_grammar.specs.Rules.{expr_fits, all_places};
 ghost use Rattle.script_grammar.specs.Expressions as tree;
@@ -30,6 +30,24 @@ pub fn grown(tree: Expr, below: u32) -> Built
     } else {
         Built::High
     }
+}
+
+/// A text literal.
+#[tactic(auto, using(php_syntax::proofs::Views::views), unfolding(php_syntax::specs::Height::height, script_grammar::specs::Rules::expr_fits))]
+pub fn text(alloc: Global, bytes: &Bytes) -> Result<Operand, NoMemory>
+    ensures { IfOk result (λ o. plain_expr o.tree ≡ text_expr bytes.now) }
+{
+    let tree = Expr::Text(bytes.copy(alloc)?);
+    Ok(Operand { tree, height: 1 })
+}
+
+/// An integer literal.
+#[tactic(auto, using(php_syntax::proofs::Views::views), unfolding(php_syntax::specs::Height::height, script_grammar::specs::Rules::expr_fits))]
+pub fn integer(number: i64) -> Operand
+    ensures { plain_expr result.tree ≡ int_expr number }
+{
+    let tree = Expr::Int(number);
+    Operand { tree, height: 1 }
 }
 
 /// The tree of a variable: those of the request are their own.

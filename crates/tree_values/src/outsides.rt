@@ -7,6 +7,7 @@ ghost use Rattle.php_trees.specs.Actions as actions;
 ghost use Rattle.tree_values.specs.Shown.{plain_spelled, plain_value};
 ghost use Rattle.tree_values.specs.Outsides.{IsLink, IsNegated, IsInner};
 
+use crate::nodes::{integer, join, text};
 use crate::places::read;
 use crate::trees::{Chain, Operand};
 use crate::value::{Spelled, Value};
@@ -14,7 +15,7 @@ use std::alloc::Global;
 use text_base::{Bytes, NoMemory};
 
 /// What stands before a `.`.
-#[derive(Debug, Drop)]
+#[derive(Drop)]
 pub enum Link {
     /// A chain of `.`, which goes on.
     Chain(Chain),
@@ -23,7 +24,7 @@ pub enum Link {
 }
 
 /// What stands behind a `-`.
-#[derive(Debug, Drop)]
+#[derive(Drop)]
 pub enum Negated {
     /// An integer literal.
     Digits(i64),
@@ -32,7 +33,7 @@ pub enum Negated {
 }
 
 /// What stands in brackets.
-#[derive(Debug, Drop)]
+#[derive(Drop)]
 pub enum Inner<'a> {
     /// A text literal.
     Quoted(&'a Bytes),
@@ -48,14 +49,9 @@ impl<'a> Spelled<'a> {
             (IsLink (plain_spelled self.entry))) }
     {
         match self {
-            Spelled::Digits(number) => Ok(Some(Link::Operand(Spelled::Digits(number).whole(
-                alloc,
-            )?))),
-            Spelled::Quoted(bytes) => Ok(Some(Link::Operand(Spelled::Quoted(bytes).whole(alloc)?))),
-            Spelled::Bracketed(bytes) => {
-                let operand = Spelled::Bracketed(bytes).whole(alloc)?;
-                Ok(Some(Link::Operand(operand)))
-            }
+            Spelled::Digits(number) => Ok(Some(Link::Operand(integer(number)))),
+            Spelled::Quoted(bytes) => Ok(Some(Link::Operand(text(alloc, bytes)?))),
+            Spelled::Bracketed(bytes) => Ok(Some(Link::Operand(text(alloc, bytes)?))),
             Spelled::Chain(chain) => Ok(Some(Link::Chain(chain))),
             Spelled::Literal(operand) => Ok(Some(Link::Operand(operand))),
             Spelled::Choice(operand) => Ok(Some(Link::Operand(operand))),
@@ -72,17 +68,9 @@ impl<'a> Spelled<'a> {
     {
         match self {
             Spelled::Digits(number) => Ok(Some(Negated::Digits(number))),
-            Spelled::Quoted(bytes) => Ok(Some(Negated::Operand(Spelled::Quoted(bytes).whole(
-                alloc,
-            )?))),
-            Spelled::Bracketed(bytes) => {
-                let operand = Spelled::Bracketed(bytes).whole(alloc)?;
-                Ok(Some(Negated::Operand(operand)))
-            }
-            Spelled::Chain(chain) => {
-                let operand = Spelled::Chain(chain).whole(alloc)?;
-                Ok(Some(Negated::Operand(operand)))
-            }
+            Spelled::Quoted(bytes) => Ok(Some(Negated::Operand(text(alloc, bytes)?))),
+            Spelled::Bracketed(bytes) => Ok(Some(Negated::Operand(text(alloc, bytes)?))),
+            Spelled::Chain(chain) => Ok(Some(Negated::Operand(join(chain)))),
             Spelled::Literal(operand) => Ok(Some(Negated::Operand(operand))),
             Spelled::Choice(operand) => Ok(Some(Negated::Operand(operand))),
             Spelled::Loose(_) => Ok(None),
@@ -96,15 +84,27 @@ impl<'a> Spelled<'a> {
     {
         match self {
             Spelled::Quoted(bytes) => Ok(Inner::Quoted(bytes)),
-            Spelled::Digits(number) => Ok(Inner::Operand(Spelled::Digits(number).whole(alloc)?)),
-            Spelled::Bracketed(bytes) => Ok(Inner::Operand(Spelled::Bracketed(bytes).whole(
-                alloc,
-            )?)),
-            Spelled::Chain(chain) => Ok(Inner::Operand(Spelled::Chain(chain).whole(alloc)?)),
+            Spelled::Digits(number) => Ok(Inner::Operand(integer(number))),
+            Spelled::Bracketed(bytes) => Ok(Inner::Operand(text(alloc, bytes)?)),
+            Spelled::Chain(chain) => Ok(Inner::Operand(join(chain))),
             Spelled::Literal(operand) => Ok(Inner::Operand(operand)),
             Spelled::Choice(operand) => Ok(Inner::Operand(operand)),
             Spelled::Loose(operand) => Ok(Inner::Operand(operand)),
             Spelled::Usual(operand) => Ok(Inner::Operand(operand)),
+        }
+    }
+
+    // The path that an include names, if this is a text.
+    fn path(self) -> Option<&'a Bytes>
+        ensures { MatchOption result
+            (actions.path_text (plain_spelled self.entry) ≡ None)
+            (λ t. actions.path_text (plain_spelled self.entry) ≡ Some t.now) }
+    {
+        match self {
+            Spelled::Quoted(bytes) => Some(bytes),
+            Spelled::Bracketed(bytes) => Some(bytes),
+            Spelled::Digits(_) | Spelled::Chain(_) | Spelled::Literal(_) => None,
+            Spelled::Choice(_) | Spelled::Loose(_) | Spelled::Usual(_) => None,
         }
     }
 }
@@ -174,11 +174,7 @@ impl<'a> Value<'a> {
             (λ t. actions.path_text (plain_value self.entry) ≡ Some t.now) }
     {
         match self {
-            Value::Expr(spelled) => match spelled {
-                Spelled::Quoted(bytes) | Spelled::Bracketed(bytes) => Some(bytes),
-                Spelled::Digits(_) | Spelled::Chain(_) | Spelled::Literal(_) => None,
-                Spelled::Choice(_) | Spelled::Loose(_) | Spelled::Usual(_) => None,
-            },
+            Value::Expr(spelled) => spelled.path(),
             Value::Leaf(_) | Value::Absent | Value::Quotes | Value::Alone(_) => None,
             Value::Exprs(_) | Value::Arguments(_) | Value::Items(..) => None,
             Value::Stmts(_) | Value::Branch(_) | Value::Params(_) => None,

@@ -5,8 +5,9 @@ ghost use Rattle.php_syntax.specs.Trees.{maybe_of, params_of_list};
 ghost use Rattle.script_grammar.specs.Rules.{params_fit};
 ghost use Rattle.php_trees.specs.Actions as actions;
 ghost use Rattle.tree_values.specs.Named.{Names};
-ghost use Rattle.tree_values.specs.Shown.{plain_value};
+ghost use Rattle.tree_values.specs.Shown.{plain_spelled, plain_value};
 
+use crate::nodes::{integer, text};
 use crate::trees::{Optional, Params};
 use crate::value::{Spelled, Value};
 use indexmap::IndexSet;
@@ -17,7 +18,7 @@ use text_base::limits::HEIGHT_LIMIT;
 use text_base::{Bytes, NoMemory};
 
 /// A parameter of a name, if it may be one.
-#[derive(Debug, Drop)]
+#[derive(Drop)]
 pub enum Named {
     /// The parameter.
     Params(Params),
@@ -88,6 +89,23 @@ impl Params {
     }
 }
 
+impl<'a> Spelled<'a> {
+    // The default of a parameter that this is, if it is a literal.
+    fn default(self, alloc: Global) -> Result<Option<Optional>, NoMemory>
+        ensures { IfOk result (λ found. MatchOption found
+            (actions.default_of_value (plain_spelled self.entry) ≡ None)
+            (λ m. actions.default_of_value (plain_spelled self.entry) ≡ Some (maybe_of m.tree))) }
+    {
+        match self {
+            Spelled::Digits(number) => Ok(Some(integer(number).optional())),
+            Spelled::Quoted(bytes) => Ok(Some(text(alloc, bytes)?.optional())),
+            Spelled::Literal(operand) => Ok(Some(operand.optional())),
+            Spelled::Bracketed(_) | Spelled::Chain(_) | Spelled::Choice(_) => Ok(None),
+            Spelled::Loose(_) | Spelled::Usual(_) => Ok(None),
+        }
+    }
+}
+
 impl<'a> Value<'a> {
     /// The default of a parameter, which is a literal, if it has one.
     pub fn default(self, alloc: Global) -> Result<Option<Optional>, NoMemory>
@@ -97,19 +115,7 @@ impl<'a> Value<'a> {
     {
         match self {
             Value::Absent => Ok(Some(Optional::none())),
-            Value::Expr(spelled) => match spelled {
-                Spelled::Digits(number) => {
-                    let operand = Spelled::Digits(number).whole(alloc)?;
-                    Ok(Some(operand.optional()))
-                }
-                Spelled::Quoted(bytes) => {
-                    let operand = Spelled::Quoted(bytes).whole(alloc)?;
-                    Ok(Some(operand.optional()))
-                }
-                Spelled::Literal(operand) => Ok(Some(operand.optional())),
-                Spelled::Bracketed(_) | Spelled::Chain(_) | Spelled::Choice(_) => Ok(None),
-                Spelled::Loose(_) | Spelled::Usual(_) => Ok(None),
-            },
+            Value::Expr(spelled) => spelled.default(alloc),
             Value::Leaf(_) | Value::Place(_) | Value::Quotes | Value::Alone(_) => Ok(None),
             Value::Exprs(_) | Value::Arguments(_) | Value::Items(..) => Ok(None),
             Value::Stmts(_) | Value::Branch(_) | Value::Params(_) => Ok(None),

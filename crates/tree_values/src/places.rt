@@ -9,6 +9,7 @@ ghost use Rattle.script_rules.specs.Parts.{read_height};
 ghost use Rattle.php_trees.specs.Values as plain;
 ghost use Rattle.php_trees.specs.Values.{path_and, member_read};
 
+use crate::flags::both;
 use crate::nodes::variable_tree;
 use crate::trees::{Operand, Optional, Place};
 use php_syntax::tree::Expr;
@@ -94,7 +95,7 @@ impl<'a> Place<'a> {
             return Ok(None);
         }
         let highest = self.highest.max(key.height);
-        let complete = self.complete && key.tree.is_some();
+        let complete = both(self.complete, key.tree.is_some());
         let before_last = self.complete;
         let name = self.name;
         let mut keys = self.keys;

@@ -13,7 +13,7 @@ use php_syntax::tree::{Expr, FileTree, FunctionDef, Param, Stmt};
 use text_base::Bytes;
 
 /// An expression.
-#[derive(Debug, Drop)]
+#[derive(Drop)]
 pub struct Operand {
     /// The expression.
     pub tree: Expr,
@@ -25,7 +25,7 @@ pub struct Operand {
 }
 
 /// An expression that may be left out.
-#[derive(Debug, Drop)]
+#[derive(Drop)]
 pub struct Optional {
     /// The expression, if there is one.
     pub tree: Option<Expr>,
@@ -37,7 +37,7 @@ pub struct Optional {
 }
 
 /// Expressions in a row.
-#[derive(Debug, Drop)]
+#[derive(Drop)]
 pub struct Row {
     /// The expressions.
     pub exprs: Vec<Expr>,
@@ -49,7 +49,7 @@ pub struct Row {
 }
 
 /// The operands of a chain of `.`, which is one higher than they are.
-#[derive(Debug, Drop)]
+#[derive(Drop)]
 pub struct Chain {
     /// The operands.
     pub exprs: Vec<Expr>,
@@ -61,7 +61,7 @@ pub struct Chain {
 }
 
 /// The items of an array, each with its key, if one is written.
-#[derive(Debug, Drop)]
+#[derive(Drop)]
 pub struct Items {
     /// The items.
     pub items: Vec<(Option<Expr>, Expr)>,
@@ -73,7 +73,7 @@ pub struct Items {
 }
 
 /// A variable with keys, which are left out where `[]` stands.
-#[derive(Debug, Drop)]
+#[derive(Drop)]
 pub struct Place<'a> {
     /// The variable's name without `$`.
     pub name: &'a Bytes,
@@ -98,7 +98,7 @@ pub struct Place<'a> {
 }
 
 /// The path of an include.
-#[derive(Debug, Drop)]
+#[derive(Drop)]
 pub struct Included<'a> {
     /// The path.
     pub path: &'a Bytes,
@@ -106,7 +106,7 @@ pub struct Included<'a> {
 }
 
 /// Statements in a row.
-#[derive(Debug, Drop)]
+#[derive(Drop)]
 pub struct Body {
     /// The statements.
     pub stmts: Vec<Stmt>,
@@ -122,7 +122,7 @@ pub struct Body {
 }
 
 /// The arms of an `if`, each with its condition, the last one first.
-#[derive(Debug, Drop)]
+#[derive(Drop)]
 pub struct Arms {
     /// The arms.
     pub arms: Vec<(Expr, Vec<Stmt>)>,
@@ -137,7 +137,7 @@ pub struct Arms {
 }
 
 /// The arms of an `if` that may go on, and what stands behind its `else`; the `if` is one higher.
-#[derive(Debug, Drop)]
+#[derive(Drop)]
 pub struct Branch {
     /// The arms.
     pub arms: Arms,
@@ -147,7 +147,7 @@ pub struct Branch {
 }
 
 /// The parameters of a function, whose names differ.
-#[derive(Debug, Drop)]
+#[derive(Drop)]
 pub struct Params {
     /// The parameters.
     pub params: Vec<Param>,
@@ -162,7 +162,7 @@ pub struct Params {
 }
 
 /// A function.
-#[derive(Debug, Drop)]
+#[derive(Drop)]
 pub struct Function {
     /// Its tree.
     pub tree: FunctionDef,
@@ -174,7 +174,7 @@ pub struct Function {
 }
 
 /// The statements and functions of a file so far.
-#[derive(Debug, Drop)]
+#[derive(Drop)]
 pub struct File {
     /// The tree of them.
     pub tree: FileTree,

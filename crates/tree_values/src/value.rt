@@ -28,7 +28,7 @@ pub enum Spelling {
 }
 
 /// An argument of a call.
-#[derive(Debug, Drop)]
+#[derive(Drop)]
 pub enum Argument<'a> {
     /// A text literal.
     Text(&'a Bytes),
@@ -39,7 +39,6 @@ pub enum Argument<'a> {
 }
 
 /// An expression as it is spelled.
-#[derive(Debug, Drop)]
 pub enum Spelled<'a> {
     /// An integer literal.
     Digits(i64),
@@ -59,8 +58,25 @@ pub enum Spelled<'a> {
     Usual(Operand),
 }
 
+// Written out, so that a value that is let go is one call to the proofs above, and not a case for
+// each variant.
+impl<'a> Drop for Spelled<'a> {
+    fn drop(self) {
+        match self {
+            Spelled::Digits(_) => {}
+            Spelled::Quoted(_) => {}
+            Spelled::Bracketed(_) => {}
+            Spelled::Chain(_) => {}
+            Spelled::Literal(_) => {}
+            Spelled::Choice(_) => {}
+            Spelled::Loose(_) => {}
+            Spelled::Usual(_) => {}
+        }
+    }
+}
+
 /// What is a statement alone.
-#[derive(Debug, Drop)]
+#[derive(Drop)]
 pub enum Alone<'a> {
     /// What `print` prints.
     Printing(Operand),
@@ -71,7 +87,6 @@ pub enum Alone<'a> {
 }
 
 /// What a part of a script stands for.
-#[derive(Debug, Drop)]
 pub enum Value<'a> {
     /// A token.
     Leaf(&'a TokenKind),
@@ -103,8 +118,30 @@ pub enum Value<'a> {
     File(File),
 }
 
+// Written out, as that of `Spelled` is.
+impl<'a> Drop for Value<'a> {
+    fn drop(self) {
+        match self {
+            Value::Leaf(_) => {}
+            Value::Absent => {}
+            Value::Expr(_) => {}
+            Value::Place(_) => {}
+            Value::Quotes => {}
+            Value::Alone(_) => {}
+            Value::Exprs(_) => {}
+            Value::Arguments(_) => {}
+            Value::Items(_, _) => {}
+            Value::Stmts(_) => {}
+            Value::Branch(_) => {}
+            Value::Params(_) => {}
+            Value::Function(_) => {}
+            Value::File(_) => {}
+        }
+    }
+}
+
 /// What a rule makes of the values of its right side.
-#[derive(Debug, Drop)]
+#[derive(Drop)]
 pub enum Made<'a> {
     /// This value.
     Value(Value<'a>),
@@ -117,7 +154,7 @@ pub enum Made<'a> {
 }
 
 /// An expression that is built of parts.
-#[derive(Debug, Drop)]
+#[derive(Drop)]
 pub enum Built {
     /// This one.
     Operand(Operand),
