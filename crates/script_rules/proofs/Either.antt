@@ -1,8 +1,6 @@
 -- Each script of PHP stands for something, or a form is left out of it.
 use Rattle.std.proofs.Common.{◌≡◌, List, refl, subst, Option, Some, None, inl, inr}
 use Rattle.std.specs.Prelude.{◌⊎◌}
-use Rattle.lr_tables.specs.declared.event.Event as event
-use Rattle.lr_tables.specs.Grammars.{IsDerived}
 use Rattle.lr_tables.specs.Values.{kinds, Has, HasValue}
 use Rattle.php_syntax.specs.Tokens.{PlainToken}
 use Rattle.php_grammar.specs.Php.{php}

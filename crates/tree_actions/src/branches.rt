@@ -83,12 +83,8 @@ pub(crate) fn others<'a>(alloc: Global, body: Value<'a>) -> Result<Made<'a>, NoM
 pub(crate) fn other<'a>(alloc: Global, body: Value<'a>) -> Result<Made<'a>, NoMemory>
     ensures { IfOk result (λ made. Makes made (other_of (plain_value body.entry))) }
 {
-    match body {
-        Value::Branch(branch) => Ok(Made::Value(Value::Branch(branch))),
-        Value::Stmts(body) => others(alloc, Value::Stmts(body)),
-        Value::Leaf(_) | Value::Absent | Value::Quotes | Value::Exprs(_) => Ok(Made::Nothing),
-        Value::Arguments(_) | Value::Items(..) | Value::Expr(_) => Ok(Made::Nothing),
-        Value::Place(_) | Value::Alone(_) | Value::Params(_) => Ok(Made::Nothing),
-        Value::Function(_) | Value::File(_) => Ok(Made::Nothing),
+    if body.is_branch() {
+        return Ok(Made::Value(body));
     }
+    others(alloc, body)
 }

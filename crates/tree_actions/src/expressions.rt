@@ -18,8 +18,8 @@ use script_grammar::operator::{Operator, Prefix, binary_of, prefix_of};
 use std::alloc::Global;
 use text_base::NoMemory;
 use tree_values::nodes::{choice, coalesce, operation, prefix, short_choice};
-use tree_values::outsides::{Inner, Link, Negated};
 use tree_values::trees::Chain;
+use tree_values::value::outsides::{Inner, Link, Negated};
 use tree_values::value::{Built, Made, Spelled, Value};
 
 /// What was built, as any expression.

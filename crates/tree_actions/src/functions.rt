@@ -203,11 +203,8 @@ pub(crate) fn next_function<'a>(before: Value<'a>, next: Value<'a>) -> Result<Ma
     let Some(file) = before.file() else {
         return Ok(Made::Nothing);
     };
-    match next {
-        Value::Function(function) => function_added(file, function),
-        Value::Leaf(_) | Value::Absent | Value::Quotes | Value::Exprs(_) => Ok(Made::Nothing),
-        Value::Arguments(_) | Value::Items(..) | Value::Expr(_) => Ok(Made::Nothing),
-        Value::Place(_) | Value::Alone(_) | Value::Params(_) => Ok(Made::Nothing),
-        Value::Stmts(_) | Value::Branch(_) | Value::File(_) => Ok(Made::Nothing),
+    match next.function() {
+        Some(function) => function_added(file, function),
+        None => Ok(Made::Nothing),
     }
 }

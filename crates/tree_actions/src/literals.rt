@@ -19,6 +19,7 @@ use script_grammar::keyword::{Keyword, keyword_named};
 use script_grammar::shapes::is_status;
 use std::alloc::Global;
 use text_base::{Bytes, NoMemory};
+use tree_values::nodes::integer;
 use tree_values::templates::template;
 use tree_values::trees::{Included, Operand, Optional};
 use tree_values::value::{Alone, Made, Spelled, Value};
@@ -27,18 +28,15 @@ use tree_values::value::{Alone, Made, Spelled, Value};
 pub(crate) fn literal_value<'a>(alloc: Global, token: Value<'a>) -> Result<Made<'a>, NoMemory>
     ensures { IfOk result (λ made. Makes made (actions.literal_of (plain_value token.entry))) }
 {
-    match token {
-        Value::Leaf(kind) => match kind {
-            TokenKind::Int(number) => Ok(Made::Value(Value::Expr(Spelled::Digits(*number)))),
-            TokenKind::Str(text) => Ok(Made::Value(Value::Expr(Spelled::Quoted(text)))),
-            TokenKind::Template(parts) => Ok(usual(template(alloc, parts.as_slice())?)),
-            TokenKind::Inline(_) | TokenKind::Var(_) => Ok(Made::Nothing),
-            TokenKind::Name(_) | TokenKind::Sign(_) => Ok(Made::Nothing),
-        },
-        Value::Absent | Value::Expr(_) | Value::Place(_) | Value::Quotes => Ok(Made::Nothing),
-        Value::Alone(_) | Value::Exprs(_) | Value::Arguments(_) => Ok(Made::Nothing),
-        Value::Items(..) | Value::Stmts(_) | Value::Branch(_) => Ok(Made::Nothing),
-        Value::Params(_) | Value::Function(_) | Value::File(_) => Ok(Made::Nothing),
+    let Some(kind) = token.leaf() else {
+        return Ok(Made::Nothing);
+    };
+    match kind {
+        TokenKind::Int(number) => Ok(Made::Value(Value::Expr(Spelled::Digits(*number)))),
+        TokenKind::Str(text) => Ok(Made::Value(Value::Expr(Spelled::Quoted(text)))),
+        TokenKind::Template(parts) => Ok(usual(template(alloc, parts.as_slice())?)),
+        TokenKind::Inline(_) | TokenKind::Var(_) => Ok(Made::Nothing),
+        TokenKind::Name(_) | TokenKind::Sign(_) => Ok(Made::Nothing),
     }
 }
 
@@ -78,8 +76,8 @@ fn constant_of<'a>(alloc: Global, word: Keyword) -> Result<Made<'a>, NoMemory>
         Keyword::False => Spelled::Literal(flag(false)),
         Keyword::Null => Spelled::Literal(null()),
         Keyword::PhpEol => Spelled::Usual(line_end(alloc)?),
-        Keyword::PhpIntMax => Spelled::Usual(Spelled::Digits(i64::MAX).whole(alloc)?),
-        Keyword::PhpIntMin => Spelled::Usual(Spelled::Digits(i64::MIN).whole(alloc)?),
+        Keyword::PhpIntMax => Spelled::Usual(integer(i64::MAX)),
+        Keyword::PhpIntMin => Spelled::Usual(integer(i64::MIN)),
         _ => return Ok(Made::Nothing),
     };
     Ok(Made::Value(Value::Expr(spelled)))

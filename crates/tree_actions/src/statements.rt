@@ -16,6 +16,7 @@ use std::alloc::Global;
 use text_base::{Bytes, NoMemory};
 use tree_values::nodes::call;
 use tree_values::trees::{Branch, Optional, Row};
+use tree_values::value::choices::Statement;
 use tree_values::value::{Alone, Built, Made, Value};
 
 /// Statements in braces.
@@ -32,16 +33,13 @@ pub(crate) fn block<'a>(alloc: Global, inner: Value<'a>) -> Result<Made<'a>, NoM
 pub(crate) fn text<'a>(alloc: Global, token: Value<'a>) -> Result<Made<'a>, NoMemory>
     ensures { IfOk result (λ made. Makes made (actions.inline_of (plain_value token.entry))) }
 {
-    match token {
-        Value::Leaf(kind) => match kind {
-            TokenKind::Inline(text) => inline(alloc, text),
-            TokenKind::Var(_) | TokenKind::Name(_) | TokenKind::Int(_) => Ok(Made::Nothing),
-            TokenKind::Str(_) | TokenKind::Template(_) | TokenKind::Sign(_) => Ok(Made::Nothing),
-        },
-        Value::Absent | Value::Expr(_) | Value::Place(_) | Value::Quotes => Ok(Made::Nothing),
-        Value::Alone(_) | Value::Exprs(_) | Value::Arguments(_) => Ok(Made::Nothing),
-        Value::Items(..) | Value::Stmts(_) | Value::Branch(_) => Ok(Made::Nothing),
-        Value::Params(_) | Value::Function(_) | Value::File(_) => Ok(Made::Nothing),
+    let Some(kind) = token.leaf() else {
+        return Ok(Made::Nothing);
+    };
+    match kind {
+        TokenKind::Inline(text) => inline(alloc, text),
+        TokenKind::Var(_) | TokenKind::Name(_) | TokenKind::Int(_) => Ok(Made::Nothing),
+        TokenKind::Str(_) | TokenKind::Template(_) | TokenKind::Sign(_) => Ok(Made::Nothing),
     }
 }
 
@@ -70,29 +68,14 @@ fn alone<'a>(alloc: Global, found: Alone<'a>) -> Result<Made<'a>, NoMemory>
     }
 }
 
-// An expression as a statement, if there is one.
-fn run_maybe<'a>(alloc: Global, value: Value<'a>) -> Result<Made<'a>, NoMemory>
-    ensures { IfOk result (λ made. Makes made
-        (option_map (λ e. one_stmt (run_stmt e)) (plain.whole_of (plain_value value.entry)))) }
-{
-    match value.whole(alloc)? {
-        Some(operand) => run(alloc, operand),
-        None => Ok(Made::Nothing),
-    }
-}
-
 /// A whole expression before `;`.
 pub(crate) fn run_value<'a>(alloc: Global, value: Value<'a>) -> Result<Made<'a>, NoMemory>
     ensures { IfOk result (λ made. Makes made (actions.run_of (plain_value value.entry))) }
 {
-    match value {
-        Value::Alone(found) => alone(alloc, found),
-        Value::Expr(spelled) => run_maybe(alloc, Value::Expr(spelled)),
-        Value::Place(place) => run_maybe(alloc, Value::Place(place)),
-        Value::Leaf(_) | Value::Absent | Value::Quotes | Value::Exprs(_) => Ok(Made::Nothing),
-        Value::Arguments(_) | Value::Items(..) | Value::Stmts(_) => Ok(Made::Nothing),
-        Value::Branch(_) | Value::Params(_) | Value::Function(_) => Ok(Made::Nothing),
-        Value::File(_) => Ok(Made::Nothing),
+    match value.statement(alloc)? {
+        None => Ok(Made::Nothing),
+        Some(Statement::Alone(found)) => alone(alloc, found),
+        Some(Statement::Operand(operand)) => run(alloc, operand),
     }
 }
 

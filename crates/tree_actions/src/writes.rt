@@ -15,6 +15,7 @@ use std::alloc::Global;
 use text_base::{Bytes, NoMemory};
 use tree_values::nodes::{assign, call, empty, isset, member, step, update};
 use tree_values::trees::{Operand, Optional, Place, Row};
+use tree_values::value::choices::Base;
 use tree_values::value::{Made, Value};
 
 /// A variable without keys.
@@ -54,16 +55,10 @@ pub(crate) fn member_value<'a>(
     let Some(key) = key.whole(alloc)? else {
         return Ok(Made::Nothing);
     };
-    match array {
-        Value::Place(place) => with_key(place, key.optional()),
-        Value::Expr(spelled) => {
-            let array = spelled.whole(alloc)?;
-            Ok(usual(member(alloc, array, key)?))
-        }
-        Value::Leaf(_) | Value::Absent | Value::Quotes | Value::Alone(_) => Ok(Made::Nothing),
-        Value::Exprs(_) | Value::Arguments(_) | Value::Items(..) => Ok(Made::Nothing),
-        Value::Stmts(_) | Value::Branch(_) | Value::Params(_) => Ok(Made::Nothing),
-        Value::Function(_) | Value::File(_) => Ok(Made::Nothing),
+    match array.base(alloc)? {
+        None => Ok(Made::Nothing),
+        Some(Base::Place(place)) => with_key(place, key.optional()),
+        Some(Base::Operand(array)) => Ok(usual(member(alloc, array, key)?)),
     }
 }
 
@@ -71,12 +66,9 @@ pub(crate) fn member_value<'a>(
 pub(crate) fn open_member<'a>(array: Value<'a>) -> Result<Made<'a>, NoMemory>
     ensures { IfOk result (λ made. Makes made (actions.open_member_of (plain_value array.entry))) }
 {
-    match array {
-        Value::Place(place) => with_key(place, Optional::none()),
-        Value::Leaf(_) | Value::Absent | Value::Quotes | Value::Alone(_) => Ok(Made::Nothing),
-        Value::Exprs(_) | Value::Arguments(_) | Value::Items(..) => Ok(Made::Nothing),
-        Value::Stmts(_) | Value::Branch(_) | Value::Params(_) => Ok(Made::Nothing),
-        Value::Function(_) | Value::File(_) | Value::Expr(_) => Ok(Made::Nothing),
+    match array.place() {
+        Some(place) => with_key(place, Optional::none()),
+        None => Ok(Made::Nothing),
     }
 }
 

@@ -7,16 +7,16 @@ use Rattle.script_grammar.specs.Expressions.{prefix_tree}
 use Rattle.php_trees.specs.Values as plain
 use Rattle.php_trees.specs.Values.{exprs_and}
 use Rattle.php_trees.specs.Actions.{joined, prefixed, bracket_of, member_of, one_stmt, run_of}
-use Rattle.tree_values.specs.declared.choices.Statement.{Statement}
-use Rattle.tree_values.specs.declared.choices.Statement.TheVariants as statement
-use Rattle.tree_values.specs.declared.choices.Base.{Base}
-use Rattle.tree_values.specs.declared.choices.Base.TheVariants as base
-use Rattle.tree_values.specs.declared.outsides.Link.{Link}
-use Rattle.tree_values.specs.declared.outsides.Link.TheVariants as link
-use Rattle.tree_values.specs.declared.outsides.Negated.{Negated}
-use Rattle.tree_values.specs.declared.outsides.Negated.TheVariants as negated
-use Rattle.tree_values.specs.declared.outsides.Inner.{Inner}
-use Rattle.tree_values.specs.declared.outsides.Inner.TheVariants as inner
+use Rattle.tree_values.specs.declared.value.choices.Statement.{Statement}
+use Rattle.tree_values.specs.declared.value.choices.Statement.TheVariants as statement
+use Rattle.tree_values.specs.declared.value.choices.Base.{Base}
+use Rattle.tree_values.specs.declared.value.choices.Base.TheVariants as base
+use Rattle.tree_values.specs.declared.value.outsides.Link.{Link}
+use Rattle.tree_values.specs.declared.value.outsides.Link.TheVariants as link
+use Rattle.tree_values.specs.declared.value.outsides.Negated.{Negated}
+use Rattle.tree_values.specs.declared.value.outsides.Negated.TheVariants as negated
+use Rattle.tree_values.specs.declared.value.outsides.Inner.{Inner}
+use Rattle.tree_values.specs.declared.value.outsides.Inner.TheVariants as inner
 use Rattle.tree_values.specs.Shown.{plain_alone}
 
 -- before a `.` stands this operand, and so the chain behind it

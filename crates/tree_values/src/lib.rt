@@ -4,11 +4,8 @@
 
 pub mod arguments;
 pub mod bodies;
-pub mod choices;
-pub mod conversions;
 mod flags;
 pub mod nodes;
-pub mod outsides;
 pub mod params;
 pub mod places;
 pub mod rows;

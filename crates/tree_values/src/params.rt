@@ -1,15 +1,11 @@
 //! Parameters of functions.
 
-ghost use Rattle.std.specs.Prelude.{◌≡◌, ◌<◌, ◌+◌, ◌++◌, [], ◌∷◌, true, false, Some, None, IfOk, MatchOption, map};
+ghost use Rattle.std.specs.Prelude.{◌≡◌, ◌++◌, [], false, IfOk, MatchOption};
 ghost use Rattle.php_syntax.specs.Trees.{maybe_of, params_of_list};
 ghost use Rattle.script_grammar.specs.Rules.{params_fit};
-ghost use Rattle.php_trees.specs.Actions as actions;
 ghost use Rattle.tree_values.specs.Named.{Names};
-ghost use Rattle.tree_values.specs.Shown.{plain_spelled, plain_value};
 
-use crate::nodes::{integer, text};
 use crate::trees::{Optional, Params};
-use crate::value::{Spelled, Value};
 use indexmap::IndexSet;
 use php_syntax::tree::Param;
 use script_grammar::reserved::is_writable;
@@ -86,40 +82,5 @@ impl Params {
             names,
             height,
         }))
-    }
-}
-
-impl<'a> Spelled<'a> {
-    // The default of a parameter that this is, if it is a literal.
-    fn default(self, alloc: Global) -> Result<Option<Optional>, NoMemory>
-        ensures { IfOk result (λ found. MatchOption found
-            (actions.default_of_value (plain_spelled self.entry) ≡ None)
-            (λ m. actions.default_of_value (plain_spelled self.entry) ≡ Some (maybe_of m.tree))) }
-    {
-        match self {
-            Spelled::Digits(number) => Ok(Some(integer(number).optional())),
-            Spelled::Quoted(bytes) => Ok(Some(text(alloc, bytes)?.optional())),
-            Spelled::Literal(operand) => Ok(Some(operand.optional())),
-            Spelled::Bracketed(_) | Spelled::Chain(_) | Spelled::Choice(_) => Ok(None),
-            Spelled::Loose(_) | Spelled::Usual(_) => Ok(None),
-        }
-    }
-}
-
-impl<'a> Value<'a> {
-    /// The default of a parameter, which is a literal, if it has one.
-    pub fn default(self, alloc: Global) -> Result<Option<Optional>, NoMemory>
-        ensures { IfOk result (λ found. MatchOption found
-            (actions.default_of_value (plain_value self.entry) ≡ None)
-            (λ m. actions.default_of_value (plain_value self.entry) ≡ Some (maybe_of m.tree))) }
-    {
-        match self {
-            Value::Absent => Ok(Some(Optional::none())),
-            Value::Expr(spelled) => spelled.default(alloc),
-            Value::Leaf(_) | Value::Place(_) | Value::Quotes | Value::Alone(_) => Ok(None),
-            Value::Exprs(_) | Value::Arguments(_) | Value::Items(..) => Ok(None),
-            Value::Stmts(_) | Value::Branch(_) | Value::Params(_) => Ok(None),
-            Value::Function(_) | Value::File(_) => Ok(None),
-        }
     }
 }

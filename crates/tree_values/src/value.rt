@@ -1,5 +1,10 @@
 //! What the parts of a script stand for, in memory.
 
+pub mod choices;
+mod conversions;
+mod defaults;
+pub mod outsides;
+
 use crate::trees::{
     Body, Branch, Chain, File, Function, Included, Items, Operand, Optional, Params, Place, Row,
 };

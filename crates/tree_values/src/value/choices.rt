@@ -48,10 +48,11 @@ impl<'a> Value<'a> {
                 Some(operand) => Ok(Some(Statement::Operand(operand))),
                 None => Ok(None),
             },
-            Value::Leaf(_) | Value::Absent | Value::Quotes | Value::Exprs(_) => Ok(None),
-            Value::Arguments(_) | Value::Items(..) | Value::Stmts(_) => Ok(None),
-            Value::Branch(_) | Value::Params(_) | Value::Function(_) => Ok(None),
-            Value::File(_) => Ok(None),
+            Value::Leaf(..) | Value::Exprs(..) => Ok(None),
+            Value::Arguments(..) | Value::Items(..) | Value::Stmts(..) => Ok(None),
+            Value::Branch(..) | Value::Params(..) | Value::Function(..) => Ok(None),
+            Value::File(..) => Ok(None),
+            Value::Absent | Value::Quotes => Ok(None),
         }
     }
 
@@ -64,10 +65,11 @@ impl<'a> Value<'a> {
         match self {
             Value::Place(place) => Ok(Some(Base::Place(place))),
             Value::Expr(spelled) => Ok(Some(Base::Operand(spelled.whole(alloc)?))),
-            Value::Leaf(_) | Value::Absent | Value::Quotes | Value::Alone(_) => Ok(None),
-            Value::Exprs(_) | Value::Arguments(_) | Value::Items(..) => Ok(None),
-            Value::Stmts(_) | Value::Branch(_) | Value::Params(_) => Ok(None),
-            Value::Function(_) | Value::File(_) => Ok(None),
+            Value::Leaf(..) | Value::Alone(..) => Ok(None),
+            Value::Exprs(..) | Value::Arguments(..) | Value::Items(..) => Ok(None),
+            Value::Stmts(..) | Value::Branch(..) | Value::Params(..) => Ok(None),
+            Value::Function(..) | Value::File(..) => Ok(None),
+            Value::Absent | Value::Quotes => Ok(None),
         }
     }
 
@@ -78,11 +80,11 @@ impl<'a> Value<'a> {
             else option_map (plain.branch no_arms) (plain.stmts_of (plain_value self.now))) }
     {
         match self {
-            Value::Branch(_) => true,
-            Value::Leaf(_) | Value::Absent | Value::Expr(_) | Value::Place(_) => false,
-            Value::Quotes | Value::Alone(_) | Value::Exprs(_) | Value::Arguments(_) => false,
-            Value::Items(..) | Value::Stmts(_) | Value::Params(_) => false,
-            Value::Function(_) | Value::File(_) => false,
+            Value::Branch(..) => true,
+            Value::Leaf(..) | Value::Absent | Value::Expr(..) | Value::Place(..) => false,
+            Value::Quotes | Value::Alone(..) | Value::Exprs(..) | Value::Arguments(..) => false,
+            Value::Items(..) | Value::Stmts(..) | Value::Params(..) => false,
+            Value::Function(..) | Value::File(..) => false,
         }
     }
 
@@ -94,10 +96,11 @@ impl<'a> Value<'a> {
     {
         match self {
             Value::Function(function) => Some(function),
-            Value::Leaf(_) | Value::Absent | Value::Expr(_) | Value::Place(_) => None,
-            Value::Quotes | Value::Alone(_) | Value::Exprs(_) | Value::Arguments(_) => None,
-            Value::Items(..) | Value::Stmts(_) | Value::Branch(_) => None,
-            Value::Params(_) | Value::File(_) => None,
+            Value::Leaf(..) | Value::Expr(..) | Value::Place(..) => None,
+            Value::Alone(..) | Value::Exprs(..) | Value::Arguments(..) => None,
+            Value::Items(..) | Value::Stmts(..) | Value::Branch(..) => None,
+            Value::Params(..) | Value::File(..) => None,
+            Value::Absent | Value::Quotes => None,
         }
     }
 
@@ -109,10 +112,10 @@ impl<'a> Value<'a> {
     {
         match self {
             Value::Leaf(kind) => Some(*kind),
-            Value::Absent | Value::Expr(_) | Value::Place(_) | Value::Quotes => None,
-            Value::Alone(_) | Value::Exprs(_) | Value::Arguments(_) | Value::Items(..) => None,
-            Value::Stmts(_) | Value::Branch(_) | Value::Params(_) => None,
-            Value::Function(_) | Value::File(_) => None,
+            Value::Absent | Value::Expr(..) | Value::Place(..) | Value::Quotes => None,
+            Value::Alone(..) | Value::Exprs(..) | Value::Arguments(..) | Value::Items(..) => None,
+            Value::Stmts(..) | Value::Branch(..) | Value::Params(..) => None,
+            Value::Function(..) | Value::File(..) => None,
         }
     }
 }

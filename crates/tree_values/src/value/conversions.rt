@@ -37,9 +37,9 @@ impl<'a> Spelled<'a> {
             ≡ (if result then None else plain.whole_of (plain_spelled self.now)) }
     {
         match self {
-            Spelled::Loose(_) => true,
-            Spelled::Digits(_) | Spelled::Quoted(_) | Spelled::Bracketed(_) => false,
-            Spelled::Chain(_) | Spelled::Literal(_) | Spelled::Choice(_) | Spelled::Usual(_) =>
+            Spelled::Loose(..) => true,
+            Spelled::Digits(..) | Spelled::Quoted(..) | Spelled::Bracketed(..) => false,
+            Spelled::Chain(..) | Spelled::Literal(..) | Spelled::Choice(..) | Spelled::Usual(..) =>
                 false,
         }
     }
@@ -50,9 +50,9 @@ impl<'a> Spelled<'a> {
             ≡ (if result then None else plain.whole_of (plain_spelled self.now)) }
     {
         match self {
-            Spelled::Loose(_) | Spelled::Choice(_) => true,
-            Spelled::Digits(_) | Spelled::Quoted(_) | Spelled::Bracketed(_) => false,
-            Spelled::Chain(_) | Spelled::Literal(_) | Spelled::Usual(_) => false,
+            Spelled::Loose(..) | Spelled::Choice(..) => true,
+            Spelled::Digits(..) | Spelled::Quoted(..) | Spelled::Bracketed(..) => false,
+            Spelled::Chain(..) | Spelled::Literal(..) | Spelled::Usual(..) => false,
         }
     }
 
@@ -86,9 +86,14 @@ impl<'a> Value<'a> {
         match self {
             Value::Expr(spelled) => Ok(Some(spelled.whole(alloc)?)),
             Value::Place(place) => read(alloc, place),
-            Value::Leaf(_) | Value::Absent | Value::Quotes | Value::Alone(_) => Ok(None),
-            Value::Exprs(_) | Value::Arguments(_) | Value::Items(..) | Value::Stmts(_) => Ok(None),
-            Value::Branch(_) | Value::Params(_) | Value::Function(_) | Value::File(_) => Ok(None),
+            Value::Leaf(..) | Value::Alone(..) => Ok(None),
+            Value::Exprs(..) | Value::Arguments(..) | Value::Items(..) | Value::Stmts(..) => Ok(
+                None,
+            ),
+            Value::Branch(..) | Value::Params(..) | Value::Function(..) | Value::File(..) => Ok(
+                None,
+            ),
+            Value::Absent | Value::Quotes => Ok(None),
         }
     }
 
@@ -106,9 +111,14 @@ impl<'a> Value<'a> {
                 Ok(Some(spelled.whole(alloc)?))
             }
             Value::Place(place) => read(alloc, place),
-            Value::Leaf(_) | Value::Absent | Value::Quotes | Value::Alone(_) => Ok(None),
-            Value::Exprs(_) | Value::Arguments(_) | Value::Items(..) | Value::Stmts(_) => Ok(None),
-            Value::Branch(_) | Value::Params(_) | Value::Function(_) | Value::File(_) => Ok(None),
+            Value::Leaf(..) | Value::Alone(..) => Ok(None),
+            Value::Exprs(..) | Value::Arguments(..) | Value::Items(..) | Value::Stmts(..) => Ok(
+                None,
+            ),
+            Value::Branch(..) | Value::Params(..) | Value::Function(..) | Value::File(..) => Ok(
+                None,
+            ),
+            Value::Absent | Value::Quotes => Ok(None),
         }
     }
 
@@ -126,9 +136,14 @@ impl<'a> Value<'a> {
                 Ok(Some(spelled.whole(alloc)?))
             }
             Value::Place(place) => read(alloc, place),
-            Value::Leaf(_) | Value::Absent | Value::Quotes | Value::Alone(_) => Ok(None),
-            Value::Exprs(_) | Value::Arguments(_) | Value::Items(..) | Value::Stmts(_) => Ok(None),
-            Value::Branch(_) | Value::Params(_) | Value::Function(_) | Value::File(_) => Ok(None),
+            Value::Leaf(..) | Value::Alone(..) => Ok(None),
+            Value::Exprs(..) | Value::Arguments(..) | Value::Items(..) | Value::Stmts(..) => Ok(
+                None,
+            ),
+            Value::Branch(..) | Value::Params(..) | Value::Function(..) | Value::File(..) => Ok(
+                None,
+            ),
+            Value::Absent | Value::Quotes => Ok(None),
         }
     }
 
@@ -145,9 +160,12 @@ impl<'a> Value<'a> {
                 None => Ok(None),
             },
             Value::Quotes => Ok(Some(Argument::QuotesFlag)),
-            Value::Leaf(_) | Value::Absent | Value::Alone(_) | Value::Exprs(_) => Ok(None),
-            Value::Arguments(_) | Value::Items(..) | Value::Stmts(_) | Value::Branch(_) => Ok(None),
-            Value::Params(_) | Value::Function(_) | Value::File(_) => Ok(None),
+            Value::Leaf(..) | Value::Alone(..) | Value::Exprs(..) => Ok(None),
+            Value::Arguments(..) | Value::Items(..) | Value::Stmts(..) | Value::Branch(..) => Ok(
+                None,
+            ),
+            Value::Params(..) | Value::Function(..) | Value::File(..) => Ok(None),
+            Value::Absent => Ok(None),
         }
     }
 
@@ -159,10 +177,11 @@ impl<'a> Value<'a> {
     {
         match self {
             Value::Exprs(found) => Some(found),
-            Value::Leaf(_) | Value::Absent | Value::Expr(_) | Value::Place(_) => None,
-            Value::Quotes | Value::Alone(_) | Value::Arguments(_) | Value::Items(..) => None,
-            Value::Stmts(_) | Value::Branch(_) | Value::Params(_) | Value::Function(_) => None,
-            Value::File(_) => None,
+            Value::Leaf(..) | Value::Expr(..) | Value::Place(..) => None,
+            Value::Alone(..) | Value::Arguments(..) | Value::Items(..) => None,
+            Value::Stmts(..) | Value::Branch(..) | Value::Params(..) | Value::Function(..) => None,
+            Value::File(..) => None,
+            Value::Absent | Value::Quotes => None,
         }
     }
 
@@ -174,10 +193,11 @@ impl<'a> Value<'a> {
     {
         match self {
             Value::Arguments(found) => Some(found),
-            Value::Leaf(_) | Value::Absent | Value::Expr(_) | Value::Place(_) => None,
-            Value::Quotes | Value::Alone(_) | Value::Exprs(_) | Value::Items(..) => None,
-            Value::Stmts(_) | Value::Branch(_) | Value::Params(_) | Value::Function(_) => None,
-            Value::File(_) => None,
+            Value::Leaf(..) | Value::Expr(..) | Value::Place(..) => None,
+            Value::Alone(..) | Value::Exprs(..) | Value::Items(..) => None,
+            Value::Stmts(..) | Value::Branch(..) | Value::Params(..) | Value::Function(..) => None,
+            Value::File(..) => None,
+            Value::Absent | Value::Quotes => None,
         }
     }
 
@@ -189,10 +209,11 @@ impl<'a> Value<'a> {
     {
         match self {
             Value::Branch(found) => Some(found),
-            Value::Leaf(_) | Value::Absent | Value::Expr(_) | Value::Place(_) => None,
-            Value::Quotes | Value::Alone(_) | Value::Exprs(_) | Value::Arguments(_) => None,
-            Value::Items(..) | Value::Stmts(_) | Value::Params(_) | Value::Function(_) => None,
-            Value::File(_) => None,
+            Value::Leaf(..) | Value::Expr(..) | Value::Place(..) => None,
+            Value::Alone(..) | Value::Exprs(..) | Value::Arguments(..) => None,
+            Value::Items(..) | Value::Stmts(..) | Value::Params(..) | Value::Function(..) => None,
+            Value::File(..) => None,
+            Value::Absent | Value::Quotes => None,
         }
     }
 
@@ -204,10 +225,11 @@ impl<'a> Value<'a> {
     {
         match self {
             Value::Params(found) => Some(found),
-            Value::Leaf(_) | Value::Absent | Value::Expr(_) | Value::Place(_) => None,
-            Value::Quotes | Value::Alone(_) | Value::Exprs(_) | Value::Arguments(_) => None,
-            Value::Items(..) | Value::Stmts(_) | Value::Branch(_) | Value::Function(_) => None,
-            Value::File(_) => None,
+            Value::Leaf(..) | Value::Expr(..) | Value::Place(..) => None,
+            Value::Alone(..) | Value::Exprs(..) | Value::Arguments(..) => None,
+            Value::Items(..) | Value::Stmts(..) | Value::Branch(..) | Value::Function(..) => None,
+            Value::File(..) => None,
+            Value::Absent | Value::Quotes => None,
         }
     }
 
@@ -219,10 +241,11 @@ impl<'a> Value<'a> {
     {
         match self {
             Value::File(found) => Some(found),
-            Value::Leaf(_) | Value::Absent | Value::Expr(_) | Value::Place(_) => None,
-            Value::Quotes | Value::Alone(_) | Value::Exprs(_) | Value::Arguments(_) => None,
-            Value::Items(..) | Value::Stmts(_) | Value::Branch(_) | Value::Params(_) => None,
-            Value::Function(_) => None,
+            Value::Leaf(..) | Value::Expr(..) | Value::Place(..) => None,
+            Value::Alone(..) | Value::Exprs(..) | Value::Arguments(..) => None,
+            Value::Items(..) | Value::Stmts(..) | Value::Branch(..) | Value::Params(..) => None,
+            Value::Function(..) => None,
+            Value::Absent | Value::Quotes => None,
         }
     }
 
@@ -234,10 +257,11 @@ impl<'a> Value<'a> {
     {
         match self {
             Value::Exprs(row) => row.only(),
-            Value::Leaf(_) | Value::Absent | Value::Expr(_) | Value::Place(_) => None,
-            Value::Quotes | Value::Alone(_) | Value::Arguments(_) | Value::Items(..) => None,
-            Value::Stmts(_) | Value::Branch(_) | Value::Params(_) | Value::Function(_) => None,
-            Value::File(_) => None,
+            Value::Leaf(..) | Value::Expr(..) | Value::Place(..) => None,
+            Value::Alone(..) | Value::Arguments(..) | Value::Items(..) => None,
+            Value::Stmts(..) | Value::Branch(..) | Value::Params(..) | Value::Function(..) => None,
+            Value::File(..) => None,
+            Value::Absent | Value::Quotes => None,
         }
     }
 
@@ -250,9 +274,12 @@ impl<'a> Value<'a> {
         match self {
             Value::Stmts(body) => Ok(Some(body)),
             Value::Branch(branch) => Ok(Some(branch.into_body(alloc)?)),
-            Value::Leaf(_) | Value::Absent | Value::Expr(_) | Value::Place(_) => Ok(None),
-            Value::Quotes | Value::Alone(_) | Value::Exprs(_) | Value::Arguments(_) => Ok(None),
-            Value::Items(..) | Value::Params(_) | Value::Function(_) | Value::File(_) => Ok(None),
+            Value::Leaf(..) | Value::Expr(..) | Value::Place(..) => Ok(None),
+            Value::Alone(..) | Value::Exprs(..) | Value::Arguments(..) => Ok(None),
+            Value::Items(..) | Value::Params(..) | Value::Function(..) | Value::File(..) => Ok(
+                None,
+            ),
+            Value::Absent | Value::Quotes => Ok(None),
         }
     }
 
@@ -269,9 +296,10 @@ impl<'a> Value<'a> {
                 TokenKind::Inline(_) | TokenKind::Name(_) | TokenKind::Int(_) => None,
                 TokenKind::Str(_) | TokenKind::Template(_) | TokenKind::Sign(_) => None,
             },
-            Value::Absent | Value::Expr(_) | Value::Quotes | Value::Alone(_) => None,
-            Value::Exprs(_) | Value::Arguments(_) | Value::Items(..) | Value::Stmts(_) => None,
-            Value::Branch(_) | Value::Params(_) | Value::Function(_) | Value::File(_) => None,
+            Value::Expr(..) | Value::Alone(..) => None,
+            Value::Exprs(..) | Value::Arguments(..) | Value::Items(..) | Value::Stmts(..) => None,
+            Value::Branch(..) | Value::Params(..) | Value::Function(..) | Value::File(..) => None,
+            Value::Absent | Value::Quotes => None,
         }
     }
 
@@ -287,10 +315,10 @@ impl<'a> Value<'a> {
                 TokenKind::Inline(_) | TokenKind::Var(_) | TokenKind::Int(_) => None,
                 TokenKind::Str(_) | TokenKind::Template(_) | TokenKind::Sign(_) => None,
             },
-            Value::Absent | Value::Expr(_) | Value::Place(_) | Value::Quotes => None,
-            Value::Alone(_) | Value::Exprs(_) | Value::Arguments(_) | Value::Items(..) => None,
-            Value::Stmts(_) | Value::Branch(_) | Value::Params(_) | Value::Function(_) => None,
-            Value::File(_) => None,
+            Value::Absent | Value::Expr(..) | Value::Place(..) | Value::Quotes => None,
+            Value::Alone(..) | Value::Exprs(..) | Value::Arguments(..) | Value::Items(..) => None,
+            Value::Stmts(..) | Value::Branch(..) | Value::Params(..) | Value::Function(..) => None,
+            Value::File(..) => None,
         }
     }
 
@@ -304,10 +332,10 @@ impl<'a> Value<'a> {
                 TokenKind::Inline(_) | TokenKind::Var(_) | TokenKind::Name(_) => None,
                 TokenKind::Int(_) | TokenKind::Str(_) | TokenKind::Template(_) => None,
             },
-            Value::Absent | Value::Expr(_) | Value::Place(_) | Value::Quotes => None,
-            Value::Alone(_) | Value::Exprs(_) | Value::Arguments(_) | Value::Items(..) => None,
-            Value::Stmts(_) | Value::Branch(_) | Value::Params(_) | Value::Function(_) => None,
-            Value::File(_) => None,
+            Value::Absent | Value::Expr(..) | Value::Place(..) | Value::Quotes => None,
+            Value::Alone(..) | Value::Exprs(..) | Value::Arguments(..) | Value::Items(..) => None,
+            Value::Stmts(..) | Value::Branch(..) | Value::Params(..) | Value::Function(..) => None,
+            Value::File(..) => None,
         }
     }
 
@@ -320,10 +348,11 @@ impl<'a> Value<'a> {
     {
         match self {
             Value::Place(place) => Some(place),
-            Value::Leaf(_) | Value::Absent | Value::Quotes | Value::Alone(_) => None,
-            Value::Exprs(_) | Value::Arguments(_) | Value::Items(..) => None,
-            Value::Stmts(_) | Value::Branch(_) | Value::Params(_) => None,
-            Value::Function(_) | Value::File(_) | Value::Expr(_) => None,
+            Value::Leaf(..) | Value::Alone(..) => None,
+            Value::Exprs(..) | Value::Arguments(..) | Value::Items(..) => None,
+            Value::Stmts(..) | Value::Branch(..) | Value::Params(..) => None,
+            Value::Function(..) | Value::File(..) | Value::Expr(..) => None,
+            Value::Absent | Value::Quotes => None,
         }
     }
 
@@ -336,10 +365,11 @@ impl<'a> Value<'a> {
     {
         match self {
             Value::Items(items, hole) => Some((items, hole)),
-            Value::Leaf(_) | Value::Absent | Value::Quotes | Value::Alone(_) => None,
-            Value::Exprs(_) | Value::Arguments(_) | Value::Place(_) => None,
-            Value::Stmts(_) | Value::Branch(_) | Value::Params(_) => None,
-            Value::Function(_) | Value::File(_) | Value::Expr(_) => None,
+            Value::Leaf(..) | Value::Alone(..) => None,
+            Value::Exprs(..) | Value::Arguments(..) | Value::Place(..) => None,
+            Value::Stmts(..) | Value::Branch(..) | Value::Params(..) => None,
+            Value::Function(..) | Value::File(..) | Value::Expr(..) => None,
+            Value::Absent | Value::Quotes => None,
         }
     }
 }

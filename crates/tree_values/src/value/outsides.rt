@@ -55,7 +55,7 @@ impl<'a> Spelled<'a> {
             Spelled::Chain(chain) => Ok(Some(Link::Chain(chain))),
             Spelled::Literal(operand) => Ok(Some(Link::Operand(operand))),
             Spelled::Choice(operand) => Ok(Some(Link::Operand(operand))),
-            Spelled::Loose(_) => Ok(None),
+            Spelled::Loose(..) => Ok(None),
             Spelled::Usual(operand) => Ok(Some(Link::Operand(operand))),
         }
     }
@@ -73,7 +73,7 @@ impl<'a> Spelled<'a> {
             Spelled::Chain(chain) => Ok(Some(Negated::Operand(join(chain)))),
             Spelled::Literal(operand) => Ok(Some(Negated::Operand(operand))),
             Spelled::Choice(operand) => Ok(Some(Negated::Operand(operand))),
-            Spelled::Loose(_) => Ok(None),
+            Spelled::Loose(..) => Ok(None),
             Spelled::Usual(operand) => Ok(Some(Negated::Operand(operand))),
         }
     }
@@ -103,8 +103,8 @@ impl<'a> Spelled<'a> {
         match self {
             Spelled::Quoted(bytes) => Some(bytes),
             Spelled::Bracketed(bytes) => Some(bytes),
-            Spelled::Digits(_) | Spelled::Chain(_) | Spelled::Literal(_) => None,
-            Spelled::Choice(_) | Spelled::Loose(_) | Spelled::Usual(_) => None,
+            Spelled::Digits(..) | Spelled::Chain(..) | Spelled::Literal(..) => None,
+            Spelled::Choice(..) | Spelled::Loose(..) | Spelled::Usual(..) => None,
         }
     }
 }
@@ -122,10 +122,11 @@ impl<'a> Value<'a> {
                 Some(operand) => Ok(Some(Link::Operand(operand))),
                 None => Ok(None),
             },
-            Value::Leaf(_) | Value::Absent | Value::Quotes | Value::Alone(_) => Ok(None),
-            Value::Exprs(_) | Value::Arguments(_) | Value::Items(..) => Ok(None),
-            Value::Stmts(_) | Value::Branch(_) | Value::Params(_) => Ok(None),
-            Value::Function(_) | Value::File(_) => Ok(None),
+            Value::Leaf(..) | Value::Alone(..) => Ok(None),
+            Value::Exprs(..) | Value::Arguments(..) | Value::Items(..) => Ok(None),
+            Value::Stmts(..) | Value::Branch(..) | Value::Params(..) => Ok(None),
+            Value::Function(..) | Value::File(..) => Ok(None),
+            Value::Absent | Value::Quotes => Ok(None),
         }
     }
 
@@ -141,10 +142,11 @@ impl<'a> Value<'a> {
                 Some(operand) => Ok(Some(Negated::Operand(operand))),
                 None => Ok(None),
             },
-            Value::Leaf(_) | Value::Absent | Value::Quotes | Value::Alone(_) => Ok(None),
-            Value::Exprs(_) | Value::Arguments(_) | Value::Items(..) => Ok(None),
-            Value::Stmts(_) | Value::Branch(_) | Value::Params(_) => Ok(None),
-            Value::Function(_) | Value::File(_) => Ok(None),
+            Value::Leaf(..) | Value::Alone(..) => Ok(None),
+            Value::Exprs(..) | Value::Arguments(..) | Value::Items(..) => Ok(None),
+            Value::Stmts(..) | Value::Branch(..) | Value::Params(..) => Ok(None),
+            Value::Function(..) | Value::File(..) => Ok(None),
+            Value::Absent | Value::Quotes => Ok(None),
         }
     }
 
@@ -160,10 +162,11 @@ impl<'a> Value<'a> {
                 Some(operand) => Ok(Some(Inner::Operand(operand))),
                 None => Ok(None),
             },
-            Value::Leaf(_) | Value::Absent | Value::Quotes | Value::Alone(_) => Ok(None),
-            Value::Exprs(_) | Value::Arguments(_) | Value::Items(..) => Ok(None),
-            Value::Stmts(_) | Value::Branch(_) | Value::Params(_) => Ok(None),
-            Value::Function(_) | Value::File(_) => Ok(None),
+            Value::Leaf(..) | Value::Alone(..) => Ok(None),
+            Value::Exprs(..) | Value::Arguments(..) | Value::Items(..) => Ok(None),
+            Value::Stmts(..) | Value::Branch(..) | Value::Params(..) => Ok(None),
+            Value::Function(..) | Value::File(..) => Ok(None),
+            Value::Absent | Value::Quotes => Ok(None),
         }
     }
 
@@ -175,10 +178,11 @@ impl<'a> Value<'a> {
     {
         match self {
             Value::Expr(spelled) => spelled.path(),
-            Value::Leaf(_) | Value::Absent | Value::Quotes | Value::Alone(_) => None,
-            Value::Exprs(_) | Value::Arguments(_) | Value::Items(..) => None,
-            Value::Stmts(_) | Value::Branch(_) | Value::Params(_) => None,
-            Value::Function(_) | Value::File(_) | Value::Place(_) => None,
+            Value::Leaf(..) | Value::Alone(..) => None,
+            Value::Exprs(..) | Value::Arguments(..) | Value::Items(..) => None,
+            Value::Stmts(..) | Value::Branch(..) | Value::Params(..) => None,
+            Value::Function(..) | Value::File(..) | Value::Place(..) => None,
+            Value::Absent | Value::Quotes => None,
         }
     }
 }
