@@ -22,3 +22,34 @@ none_behind n = ten_are [] (after n []) (sym_at 0) (sym_at 1) (sym_at 2) (sym_at
     sym_at : (k : ℕ) → at k [] ≡ at k (after n [])
     sym_at zero = sym (at_after n zero)
     sym_at (suc k) = sym (at_after n (suc k))
+
+-- one more value, before those that were put
+pub put_0 : (a b c d e f g h i j x : Value) (vs : List Value) → a ∷ b ∷ c ∷ d ∷ e ∷ f ∷ g ∷ h ∷ i ∷ j ∷ [] ≡ behind 1 vs → x ∷ b ∷ c ∷ d ∷ e ∷ f ∷ g ∷ h ∷ i ∷ j ∷ [] ≡ behind 0 (x ∷ vs)
+put_0 a b c d e f g h i j x vs same = cc
+
+pub put_1 : (a b c d e f g h i j x : Value) (vs : List Value) → a ∷ b ∷ c ∷ d ∷ e ∷ f ∷ g ∷ h ∷ i ∷ j ∷ [] ≡ behind 2 vs → a ∷ x ∷ c ∷ d ∷ e ∷ f ∷ g ∷ h ∷ i ∷ j ∷ [] ≡ behind 1 (x ∷ vs)
+put_1 a b c d e f g h i j x vs same = cc
+
+pub put_2 : (a b c d e f g h i j x : Value) (vs : List Value) → a ∷ b ∷ c ∷ d ∷ e ∷ f ∷ g ∷ h ∷ i ∷ j ∷ [] ≡ behind 3 vs → a ∷ b ∷ x ∷ d ∷ e ∷ f ∷ g ∷ h ∷ i ∷ j ∷ [] ≡ behind 2 (x ∷ vs)
+put_2 a b c d e f g h i j x vs same = cc
+
+pub put_3 : (a b c d e f g h i j x : Value) (vs : List Value) → a ∷ b ∷ c ∷ d ∷ e ∷ f ∷ g ∷ h ∷ i ∷ j ∷ [] ≡ behind 4 vs → a ∷ b ∷ c ∷ x ∷ e ∷ f ∷ g ∷ h ∷ i ∷ j ∷ [] ≡ behind 3 (x ∷ vs)
+put_3 a b c d e f g h i j x vs same = cc
+
+pub put_4 : (a b c d e f g h i j x : Value) (vs : List Value) → a ∷ b ∷ c ∷ d ∷ e ∷ f ∷ g ∷ h ∷ i ∷ j ∷ [] ≡ behind 5 vs → a ∷ b ∷ c ∷ d ∷ x ∷ f ∷ g ∷ h ∷ i ∷ j ∷ [] ≡ behind 4 (x ∷ vs)
+put_4 a b c d e f g h i j x vs same = cc
+
+pub put_5 : (a b c d e f g h i j x : Value) (vs : List Value) → a ∷ b ∷ c ∷ d ∷ e ∷ f ∷ g ∷ h ∷ i ∷ j ∷ [] ≡ behind 6 vs → a ∷ b ∷ c ∷ d ∷ e ∷ x ∷ g ∷ h ∷ i ∷ j ∷ [] ≡ behind 5 (x ∷ vs)
+put_5 a b c d e f g h i j x vs same = cc
+
+pub put_6 : (a b c d e f g h i j x : Value) (vs : List Value) → a ∷ b ∷ c ∷ d ∷ e ∷ f ∷ g ∷ h ∷ i ∷ j ∷ [] ≡ behind 7 vs → a ∷ b ∷ c ∷ d ∷ e ∷ f ∷ x ∷ h ∷ i ∷ j ∷ [] ≡ behind 6 (x ∷ vs)
+put_6 a b c d e f g h i j x vs same = cc
+
+pub put_7 : (a b c d e f g h i j x : Value) (vs : List Value) → a ∷ b ∷ c ∷ d ∷ e ∷ f ∷ g ∷ h ∷ i ∷ j ∷ [] ≡ behind 8 vs → a ∷ b ∷ c ∷ d ∷ e ∷ f ∷ g ∷ x ∷ i ∷ j ∷ [] ≡ behind 7 (x ∷ vs)
+put_7 a b c d e f g h i j x vs same = cc
+
+pub put_8 : (a b c d e f g h i j x : Value) (vs : List Value) → a ∷ b ∷ c ∷ d ∷ e ∷ f ∷ g ∷ h ∷ i ∷ j ∷ [] ≡ behind 9 vs → a ∷ b ∷ c ∷ d ∷ e ∷ f ∷ g ∷ h ∷ x ∷ j ∷ [] ≡ behind 8 (x ∷ vs)
+put_8 a b c d e f g h i j x vs same = cc
+
+pub put_9 : (a b c d e f g h i j x : Value) (vs : List Value) → a ∷ b ∷ c ∷ d ∷ e ∷ f ∷ g ∷ h ∷ i ∷ j ∷ [] ≡ behind 10 vs → a ∷ b ∷ c ∷ d ∷ e ∷ f ∷ g ∷ h ∷ i ∷ x ∷ [] ≡ behind 9 (x ∷ vs)
+put_9 a b c d e f g h i j x vs same = cc

@@ -5,3 +5,4 @@ pub mod StmtLemmas
 pub mod ArmLemmas
 pub mod NameLemmas
 pub mod TemplateLemmas
+pub mod OptionLemmas
