@@ -15,6 +15,36 @@ use text_base::limits::HEIGHT_LIMIT;
 use tree_values::trees::{Arms, Body, Branch, Operand};
 use tree_values::value::{Made, Value};
 
+// An arm before others, which may go on.
+fn added<'a>(rest: Branch, condition: Operand, body: Body) -> Result<Made<'a>, NoMemory>
+    ensures { IfOk result (λ made. Makes made (Some (armed (plain_expr condition.tree) (stmts_of body.stmts.items)
+        (arms_of (reverse rest.arms.arms.items), stmts_of rest.others.stmts.items)))) }
+{
+    let found = rest.with(condition, body)?;
+    let Some(branch) = found else {
+        return Ok(Made::High);
+    };
+    Ok(Made::Value(Value::Branch(branch)))
+}
+
+// The same where no arm can follow.
+fn added_last<'a>(
+    alloc: Global,
+    rest: Branch,
+    condition: Operand,
+    body: Body,
+) -> Result<Made<'a>, NoMemory>
+    ensures { IfOk result (λ made. Makes made (Some (armed_whole (plain_expr condition.tree) (stmts_of body.stmts.items)
+        (arms_of (reverse rest.arms.arms.items), stmts_of rest.others.stmts.items)))) }
+{
+    let found = rest.with(condition, body)?;
+    let Some(branch) = found else {
+        return Ok(Made::High);
+    };
+    let whole = branch.into_body(alloc)?;
+    Ok(Made::Value(Value::Stmts(whole)))
+}
+
 /// A condition and its statements before further arms, which may go on.
 pub(crate) fn arm<'a>(
     alloc: Global,
@@ -34,10 +64,7 @@ pub(crate) fn arm<'a>(
     let Some(rest) = rest.branch() else {
         return Ok(Made::Nothing);
     };
-    match rest.with(condition, body)? {
-        Some(branch) => Ok(Made::Value(Value::Branch(branch))),
-        None => Ok(Made::High),
-    }
+    added(rest, condition, body)
 }
 
 /// The same where no arm can follow.
@@ -59,10 +86,17 @@ pub(crate) fn whole_arm<'a>(
     let Some(rest) = rest.branch() else {
         return Ok(Made::Nothing);
     };
-    match rest.with(condition, body)? {
-        Some(branch) => Ok(Made::Value(Value::Stmts(branch.into_body(alloc)?))),
-        None => Ok(Made::High),
-    }
+    added_last(alloc, rest, condition, body)
+}
+
+// No arms, and what stands behind `else`.
+fn only_others<'a>(alloc: Global, body: Body) -> Made<'a>
+    ensures { Makes result (Some (plain.branch no_arms (stmts_of body.stmts.items))) }
+{
+    let Some(branch) = Branch::only(alloc, body) else {
+        return Made::High;
+    };
+    Made::Value(Value::Branch(branch))
 }
 
 /// What stands behind `else` in the form with colons.
@@ -73,10 +107,7 @@ pub(crate) fn others<'a>(alloc: Global, body: Value<'a>) -> Result<Made<'a>, NoM
     let Some(body) = body.stmts(alloc)? else {
         return Ok(Made::Nothing);
     };
-    match Branch::only(alloc, body) {
-        Some(branch) => Ok(Made::Value(Value::Branch(branch))),
-        None => Ok(Made::High),
-    }
+    Ok(only_others(alloc, body))
 }
 
 /// What stands behind `else`: an `if` is one more arm.

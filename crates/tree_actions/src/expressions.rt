@@ -3,7 +3,7 @@
 ghost use Rattle.std.specs.Prelude.{◌≡◌, ◌<◌, true, Some, None, IfOk, MatchOption};
 ghost use Rattle.std.specs.Option.{option_map};
 ghost use Rattle.text_base.specs.declared.limits.TheConstants.{HEIGHT_LIMIT};
-ghost use Rattle.php_syntax.specs.Trees.{PlainExpr, exprs_of, join_expr, coalesce_expr, some_expr, no_expr};
+ghost use Rattle.php_syntax.specs.Trees.{PlainExpr, plain_expr, exprs_of, join_expr, coalesce_expr, some_expr, no_expr};
 ghost use Rattle.php_syntax.specs.Height.{height};
 ghost use Rattle.script_grammar.specs.declared.operator.Prefix.TheVariants as prefixes;
 ghost use Rattle.script_grammar.specs.Operators.{binary_operator, prefix_operator};
@@ -12,13 +12,14 @@ ghost use Rattle.script_grammar.specs.Rules.{expr_fits};
 ghost use Rattle.php_trees.specs.Values as plain;
 ghost use Rattle.php_trees.specs.Actions as actions;
 ghost use Rattle.php_trees.specs.Actions.{of_two, of_three, and_then, choosing};
+ghost use Rattle.tree_values.specs.Outsides.{IsLink};
 ghost use Rattle.tree_values.specs.Shown.{plain_value, Makes, Builds};
 
 use script_grammar::operator::{Operator, Prefix, binary_of, prefix_of};
 use std::alloc::Global;
 use text_base::NoMemory;
-use tree_values::nodes::{choice, coalesce, operation, prefix, short_choice};
-use tree_values::trees::Chain;
+use tree_values::nodes::{choice, coalesce, integer, operation, prefix, short_choice};
+use tree_values::trees::{Chain, Operand};
 use tree_values::value::outsides::{Inner, Link, Negated};
 use tree_values::value::{Built, Made, Spelled, Value};
 
@@ -112,7 +113,8 @@ fn operated<'a>(
     let Some(right) = right.operand(alloc)? else {
         return Ok(Made::Nothing);
     };
-    Ok(usual(operation(alloc, operator, left, right)?))
+    let built = operation(alloc, operator, left, right)?;
+    Ok(usual(built))
 }
 
 // A chain, unless it is over 200 high.
@@ -128,6 +130,23 @@ fn chained<'a>(chain: Option<Chain>) -> Made<'a>
     }
 }
 
+// An operand behind what stands before a `.`.
+fn linked<'a>(alloc: Global, left: Link, right: Operand) -> Result<Made<'a>, NoMemory>
+    ensures { IfOk result (λ made. (v : plain.Value) → IsLink v left
+        → Makes made (of_two (actions.joined v) (plain.operand_of v) (Some (plain_expr right.tree)))) }
+{
+    match left {
+        Link::Chain(chain) => {
+            let found = chain.with(right)?;
+            Ok(chained(found))
+        }
+        Link::Operand(operand) => {
+            let found = Chain::new(alloc, operand, right)?;
+            Ok(chained(found))
+        }
+    }
+}
+
 // Two operands by `.`: the first may be a chain.
 fn joined<'a>(alloc: Global, left: Value<'a>, right: Value<'a>) -> Result<Made<'a>, NoMemory>
     ensures { IfOk result (λ made. Makes made (of_two (actions.joined (plain_value left.entry))
@@ -139,10 +158,7 @@ fn joined<'a>(alloc: Global, left: Value<'a>, right: Value<'a>) -> Result<Made<'
     let Some(right) = right.operand(alloc)? else {
         return Ok(Made::Nothing);
     };
-    match left {
-        Link::Chain(chain) => Ok(chained(chain.with(right)?)),
-        Link::Operand(operand) => Ok(chained(Chain::new(alloc, operand, right)?)),
-    }
+    linked(alloc, left, right)
 }
 
 /// An operand by the operator of a sign before it.
@@ -173,13 +189,18 @@ pub(crate) fn prefixed<'a>(
 fn negative<'a>(alloc: Global, value: Value<'a>) -> Result<Made<'a>, NoMemory>
     ensures { IfOk result (λ made. Makes made (actions.prefixed prefixes.Neg (plain_value value.entry))) }
 {
-    match value.negated(alloc)? {
-        None => Ok(Made::Nothing),
-        Some(Negated::Digits(number)) => {
-            let operand = Spelled::Digits(number).whole(alloc)?;
-            Ok(literal(prefix(alloc, Prefix::Neg, operand)?))
+    let Some(negated) = value.negated(alloc)? else {
+        return Ok(Made::Nothing);
+    };
+    match negated {
+        Negated::Digits(number) => {
+            let built = prefix(alloc, Prefix::Neg, integer(number))?;
+            Ok(literal(built))
         }
-        Some(Negated::Operand(operand)) => Ok(usual(prefix(alloc, Prefix::Neg, operand)?)),
+        Negated::Operand(operand) => {
+            let built = prefix(alloc, Prefix::Neg, operand)?;
+            Ok(usual(built))
+        }
     }
 }
 
@@ -195,7 +216,8 @@ fn behind_prefix<'a>(
     let Some(operand) = value.operand(alloc)? else {
         return Ok(Made::Nothing);
     };
-    Ok(usual(prefix(alloc, operator, operand)?))
+    let built = prefix(alloc, operator, operand)?;
+    Ok(usual(built))
 }
 
 /// `??` between operands.
@@ -213,7 +235,8 @@ pub(crate) fn coalesced<'a>(
     let Some(right) = right.operand(alloc)? else {
         return Ok(Made::Nothing);
     };
-    Ok(usual(coalesce(alloc, left, right)?))
+    let built = coalesce(alloc, left, right)?;
+    Ok(usual(built))
 }
 
 /// `?` and `:` between three operands.
@@ -236,7 +259,8 @@ pub(crate) fn chooses<'a>(
     let Some(right) = right.operand(alloc)? else {
         return Ok(Made::Nothing);
     };
-    Ok(chosen(choice(alloc, left, middle, right)?))
+    let built = choice(alloc, left, middle, right)?;
+    Ok(chosen(built))
 }
 
 /// `?:` between two operands.
@@ -254,16 +278,19 @@ pub(crate) fn shortly_chooses<'a>(
     let Some(right) = right.operand(alloc)? else {
         return Ok(Made::Nothing);
     };
-    Ok(chosen(short_choice(alloc, left, right)?))
+    let built = short_choice(alloc, left, right)?;
+    Ok(chosen(built))
 }
 
 /// An expression in brackets.
 pub(crate) fn bracketed<'a>(alloc: Global, value: Value<'a>) -> Result<Made<'a>, NoMemory>
     ensures { IfOk result (λ made. Makes made (actions.bracket_of (plain_value value.entry))) }
 {
-    match value.inner(alloc)? {
-        None => Ok(Made::Nothing),
-        Some(Inner::Quoted(bytes)) => Ok(Made::Value(Value::Expr(Spelled::Bracketed(bytes)))),
-        Some(Inner::Operand(operand)) => Ok(Made::Value(Value::Expr(Spelled::Usual(operand)))),
+    let Some(inner) = value.inner(alloc)? else {
+        return Ok(Made::Nothing);
+    };
+    match inner {
+        Inner::Quoted(bytes) => Ok(Made::Value(Value::Expr(Spelled::Bracketed(bytes)))),
+        Inner::Operand(operand) => Ok(Made::Value(Value::Expr(Spelled::Usual(operand)))),
     }
 }

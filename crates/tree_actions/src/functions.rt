@@ -70,10 +70,10 @@ pub(crate) fn next_parameter<'a>(
     let Some(next) = next.params() else {
         return Ok(Made::Nothing);
     };
-    match before.and(alloc, next)? {
-        Some(params) => Ok(Made::Value(Value::Params(params))),
-        None => Ok(Made::Broken),
-    }
+    let Some(params) = before.and(alloc, next)? else {
+        return Ok(Made::Broken);
+    };
+    Ok(Made::Value(Value::Params(params)))
 }
 
 /// A function.
@@ -203,8 +203,8 @@ pub(crate) fn next_function<'a>(before: Value<'a>, next: Value<'a>) -> Result<Ma
     let Some(file) = before.file() else {
         return Ok(Made::Nothing);
     };
-    match next.function() {
-        Some(function) => function_added(file, function),
-        None => Ok(Made::Nothing),
-    }
+    let Some(function) = next.function() else {
+        return Ok(Made::Nothing);
+    };
+    function_added(file, function)
 }

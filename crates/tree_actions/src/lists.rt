@@ -22,10 +22,11 @@ use tree_values::value::{Argument, Made, Spelled, Value};
 pub(crate) fn first_expression<'a>(alloc: Global, value: Value<'a>) -> Result<Made<'a>, NoMemory>
     ensures { IfOk result (λ made. Makes made (option_map (λ e. plain.exprs (more_exprs e no_exprs)) (plain.whole_of (plain_value value.entry)))) }
 {
-    match value.whole(alloc)? {
-        Some(operand) => Ok(Made::Value(Value::Exprs(Row::empty(alloc).with(operand)?))),
-        None => Ok(Made::Nothing),
-    }
+    let Some(operand) = value.whole(alloc)? else {
+        return Ok(Made::Nothing);
+    };
+    let row = Row::empty(alloc).with(operand)?;
+    Ok(Made::Value(Value::Exprs(row)))
 }
 
 /// One more expression of a row.
@@ -43,20 +44,19 @@ pub(crate) fn next_expression<'a>(
     let Some(operand) = value.whole(alloc)? else {
         return Ok(Made::Nothing);
     };
-    Ok(Made::Value(Value::Exprs(row.with(operand)?)))
+    let all = row.with(operand)?;
+    Ok(Made::Value(Value::Exprs(all)))
 }
 
 /// An item of an array without a key.
 pub(crate) fn element<'a>(alloc: Global, value: Value<'a>) -> Result<Made<'a>, NoMemory>
     ensures { IfOk result (λ made. Makes made (option_map (λ e. plain.items (more_items no_expr e no_items) false) (plain.whole_of (plain_value value.entry)))) }
 {
-    match value.whole(alloc)? {
-        Some(operand) => {
-            let items = Items::one(alloc, Optional::none(), operand)?;
-            Ok(Made::Value(Value::Items(items, false)))
-        }
-        None => Ok(Made::Nothing),
-    }
+    let Some(operand) = value.whole(alloc)? else {
+        return Ok(Made::Nothing);
+    };
+    let items = Items::one(alloc, Optional::none(), operand)?;
+    Ok(Made::Value(Value::Items(items, false)))
 }
 
 /// An item of an array with its key.
@@ -91,31 +91,30 @@ pub(crate) fn next_element<'a>(before: Value<'a>, next: Value<'a>) -> Result<Mad
     if hole {
         return Ok(Made::Nothing);
     }
-    Ok(Made::Value(Value::Items(items.and(next)?, last)))
+    let all = items.and(next)?;
+    Ok(Made::Value(Value::Items(all, last)))
 }
 
 /// An array by its items.
 pub(crate) fn array_value<'a>(items: Value<'a>) -> Made<'a>
     ensures { Makes result (actions.array_of (plain_value items.entry)) }
 {
-    match items.items() {
-        Some((items, _)) => usual(array(items)),
-        None => Made::Nothing,
-    }
+    let Some((items, _)) = items.items() else {
+        return Made::Nothing;
+    };
+    usual(array(items))
 }
 
 /// The first argument of a call.
 pub(crate) fn first_argument<'a>(alloc: Global, value: Value<'a>) -> Result<Made<'a>, NoMemory>
     ensures { IfOk result (λ made. Makes made (option_map (λ g. plain.arguments (g ∷ [])) (plain.argument_of (plain_value value.entry)))) }
 {
-    match value.argument(alloc)? {
-        Some(argument) => {
-            let mut arguments = Vec::new(alloc);
-            arguments.push(argument)?;
-            Ok(Made::Value(Value::Arguments(arguments)))
-        }
-        None => Ok(Made::Nothing),
-    }
+    let Some(argument) = value.argument(alloc)? else {
+        return Ok(Made::Nothing);
+    };
+    let mut arguments = Vec::new(alloc);
+    arguments.push(argument)?;
+    Ok(Made::Value(Value::Arguments(arguments)))
 }
 
 /// One more argument of a call.
@@ -155,10 +154,10 @@ pub(crate) fn called<'a>(
     if is_escape(&name) && is_spelled_out(arguments.as_slice()) {
         arguments.truncate(1);
     }
-    match given(alloc, arguments)? {
-        Some(row) => Ok(usual(call(name, row))),
-        None => Ok(Made::Nothing),
-    }
+    let Some(row) = given(alloc, arguments)? else {
+        return Ok(Made::Nothing);
+    };
+    Ok(usual(call(name, row)))
 }
 
 // Whether a name is that of `htmlspecialchars`.

@@ -107,10 +107,10 @@ pub(crate) fn constant<'a>(alloc: Global, token: Value<'a>) -> Result<Made<'a>, 
 pub(crate) fn print<'a>(alloc: Global, value: Value<'a>) -> Result<Made<'a>, NoMemory>
     ensures { IfOk result (λ made. Makes made (option_map plain.printing (plain.whole_of (plain_value value.entry)))) }
 {
-    match value.whole(alloc)? {
-        Some(operand) => Ok(Made::Value(Value::Alone(Alone::Printing(operand)))),
-        None => Ok(Made::Nothing),
-    }
+    let Some(operand) = value.whole(alloc)? else {
+        return Ok(Made::Nothing);
+    };
+    Ok(Made::Value(Value::Alone(Alone::Printing(operand))))
 }
 
 /// What `exit` prints.
@@ -169,8 +169,8 @@ pub(crate) fn include_value<'a>(token: Value<'a>, text: Value<'a>) -> Made<'a>
     if !includes(word) {
         return Made::Nothing;
     }
-    match text.path() {
-        Some(path) => included(path),
-        None => Made::Nothing,
-    }
+    let Some(path) = text.path() else {
+        return Made::Nothing;
+    };
+    included(path)
 }

@@ -23,10 +23,10 @@ use tree_values::value::{Alone, Built, Made, Value};
 pub(crate) fn block<'a>(alloc: Global, inner: Value<'a>) -> Result<Made<'a>, NoMemory>
     ensures { IfOk result (λ made. Makes made (option_map plain.stmts (plain.stmts_of (plain_value inner.entry)))) }
 {
-    match inner.stmts(alloc)? {
-        Some(body) => Ok(Made::Value(Value::Stmts(body))),
-        None => Ok(Made::Nothing),
-    }
+    let Some(body) = inner.stmts(alloc)? else {
+        return Ok(Made::Nothing);
+    };
+    Ok(Made::Value(Value::Stmts(body)))
 }
 
 /// Text outside of PHP.
@@ -48,10 +48,10 @@ pub(crate) fn echoed<'a>(alloc: Global, exprs: Value<'a>) -> Result<Made<'a>, No
     ensures { IfOk result (λ made. Makes made
         (option_map (λ es. one_stmt (echo_stmt es)) (plain.exprs_of (plain_value exprs.entry)))) }
 {
-    match exprs.exprs() {
-        Some(row) => echo(alloc, row),
-        None => Ok(Made::Nothing),
-    }
+    let Some(row) = exprs.exprs() else {
+        return Ok(Made::Nothing);
+    };
+    echo(alloc, row)
 }
 
 // What is a statement alone.
@@ -72,10 +72,12 @@ fn alone<'a>(alloc: Global, found: Alone<'a>) -> Result<Made<'a>, NoMemory>
 pub(crate) fn run_value<'a>(alloc: Global, value: Value<'a>) -> Result<Made<'a>, NoMemory>
     ensures { IfOk result (λ made. Makes made (actions.run_of (plain_value value.entry))) }
 {
-    match value.statement(alloc)? {
-        None => Ok(Made::Nothing),
-        Some(Statement::Alone(found)) => alone(alloc, found),
-        Some(Statement::Operand(operand)) => run(alloc, operand),
+    let Some(statement) = value.statement(alloc)? else {
+        return Ok(Made::Nothing);
+    };
+    match statement {
+        Statement::Alone(found) => alone(alloc, found),
+        Statement::Operand(operand) => run(alloc, operand),
     }
 }
 
@@ -215,10 +217,10 @@ pub(crate) fn return_value<'a>(alloc: Global, value: Value<'a>) -> Result<Made<'
     ensures { IfOk result (λ made. Makes made (option_map
         (λ e. one_stmt (return_stmt (some_expr e))) (plain.whole_of (plain_value value.entry)))) }
 {
-    match value.whole(alloc)? {
-        Some(operand) => give_back(alloc, operand.optional()),
-        None => Ok(Made::Nothing),
-    }
+    let Some(operand) = value.whole(alloc)? else {
+        return Ok(Made::Nothing);
+    };
+    give_back(alloc, operand.optional())
 }
 
 /// Statements, and then others.
@@ -236,5 +238,6 @@ pub(crate) fn next_statement<'a>(
     let Some(next) = next.stmts(alloc)? else {
         return Ok(Made::Nothing);
     };
-    Ok(Made::Value(Value::Stmts(before.and(next)?)))
+    let all = before.and(next)?;
+    Ok(Made::Value(Value::Stmts(all)))
 }

@@ -25,10 +25,10 @@ pub(crate) fn variable<'a>(alloc: Global, token: Value<'a>) -> Made<'a>
     let Some(name) = token.variable() else {
         return Made::Nothing;
     };
-    match Place::new(alloc, name) {
-        Some(place) => Made::Value(Value::Place(place)),
-        None => Made::Broken,
-    }
+    let Some(place) = Place::new(alloc, name) else {
+        return Made::Broken;
+    };
+    Made::Value(Value::Place(place))
 }
 
 // A variable with one more key.
@@ -37,10 +37,11 @@ fn with_key<'a>(place: Place<'a>, key: Optional) -> Result<Made<'a>, NoMemory>
     ensures { IfOk result (λ made. Makes made (Some (plain.place place.entry.name.now
         (plain.path_and (path_of place.entry.keys.items) (more_keys (maybe_of key.tree) no_keys))))) }
 {
-    match place.with(key)? {
-        Some(place) => Ok(Made::Value(Value::Place(place))),
-        None => Ok(Made::High),
-    }
+    let found = place.with(key)?;
+    let Some(place) = found else {
+        return Ok(Made::High);
+    };
+    Ok(Made::Value(Value::Place(place)))
 }
 
 /// A member by a key.
@@ -55,10 +56,15 @@ pub(crate) fn member_value<'a>(
     let Some(key) = key.whole(alloc)? else {
         return Ok(Made::Nothing);
     };
-    match array.base(alloc)? {
-        None => Ok(Made::Nothing),
-        Some(Base::Place(place)) => with_key(place, key.optional()),
-        Some(Base::Operand(array)) => Ok(usual(member(alloc, array, key)?)),
+    let Some(base) = array.base(alloc)? else {
+        return Ok(Made::Nothing);
+    };
+    match base {
+        Base::Place(place) => with_key(place, key.optional()),
+        Base::Operand(array) => {
+            let built = member(alloc, array, key)?;
+            Ok(usual(built))
+        }
     }
 }
 
@@ -66,10 +72,10 @@ pub(crate) fn member_value<'a>(
 pub(crate) fn open_member<'a>(array: Value<'a>) -> Result<Made<'a>, NoMemory>
     ensures { IfOk result (λ made. Makes made (actions.open_member_of (plain_value array.entry))) }
 {
-    match array.place() {
-        Some(place) => with_key(place, Optional::none()),
-        None => Ok(Made::Nothing),
-    }
+    let Some(place) = array.place() else {
+        return Ok(Made::Nothing);
+    };
+    with_key(place, Optional::none())
 }
 
 /// An assignment.
@@ -87,7 +93,8 @@ pub(crate) fn assigned<'a>(
     let Some(value) = value.whole(alloc)? else {
         return Ok(Made::Nothing);
     };
-    Ok(loose(assign(alloc, place, value)?))
+    let built = assign(alloc, place, value)?;
+    Ok(loose(built))
 }
 
 /// An assignment that reads its target first.
@@ -112,7 +119,8 @@ pub(crate) fn updated<'a>(
     let Some(value) = value.whole(alloc)? else {
         return Ok(Made::Nothing);
     };
-    Ok(loose(update(alloc, sign, place, value)?))
+    let built = update(alloc, sign, place, value)?;
+    Ok(loose(built))
 }
 
 /// `++` or `--` of a variable.
@@ -134,27 +142,29 @@ pub(crate) fn stepped<'a>(
     let Some(up) = step_of(sign) else {
         return Ok(Made::Nothing);
     };
-    Ok(usual(step(alloc, name, up, before)?))
+    let built = step(alloc, name, up, before)?;
+    Ok(usual(built))
 }
 
 /// `isset` of operands.
 pub(crate) fn isset_value<'a>(exprs: Value<'a>) -> Made<'a>
     ensures { Makes result (option_map (λ es. plain.expr plain.usual (isset_expr es)) (plain.exprs_of (plain_value exprs.entry))) }
 {
-    match exprs.exprs() {
-        Some(row) => usual(isset(row)),
-        None => Made::Nothing,
-    }
+    let Some(row) = exprs.exprs() else {
+        return Made::Nothing;
+    };
+    usual(isset(row))
 }
 
 /// `empty` of an operand.
 pub(crate) fn empty_value<'a>(alloc: Global, value: Value<'a>) -> Result<Made<'a>, NoMemory>
     ensures { IfOk result (λ made. Makes made (option_map (λ e. plain.expr plain.usual (empty_expr e)) (plain.whole_of (plain_value value.entry)))) }
 {
-    match value.whole(alloc)? {
-        Some(operand) => Ok(usual(empty(alloc, operand)?)),
-        None => Ok(Made::Nothing),
-    }
+    let Some(operand) = value.whole(alloc)? else {
+        return Ok(Made::Nothing);
+    };
+    let built = empty(alloc, operand)?;
+    Ok(usual(built))
 }
 
 /// `eval` of an operand, which is a call.

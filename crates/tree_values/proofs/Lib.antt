@@ -6,3 +6,4 @@ pub mod ArmLemmas
 pub mod NameLemmas
 pub mod TemplateLemmas
 pub mod OptionLemmas
+pub mod ArgumentLemmas

@@ -1,5 +1,5 @@
 -- Names of parameters.
-use Rattle.std.proofs.Common.{◌≡◌, ℕ, zero, suc, ◌+◌, ◌<◌, Bool, true, false, List, [], ◌∷◌, ◌++◌, refl, ap, ◌∙◌, sym, subst, arith}
+use Rattle.std.proofs.Common.{◌≡◌, ℕ, zero, suc, ◌+◌, ◌<◌, Bool, true, false, List, [], ◌∷◌, ◌++◌, append_assoc, refl, ap, ◌∙◌, sym, subst, arith}
 use Rattle.std.specs.Prelude.{◌&&◌, ◌||◌, not, max, map, nat_eq, if◌then◌else◌}
 use Rattle.std.specs.List.{list_any}
 use Rattle.std.specs.Cmp.Lexicographic.{pointwise}
@@ -103,3 +103,58 @@ with_old (p ∷ ps) q rest e = by_test (same_bytes q.name_of p.name_of) refl
         shut : (a : Bool) → not (same_bytes p.name_of q.name_of) ≡ false → (a && (not (same_bytes p.name_of q.name_of) && is_new_name p.name_of rest)) ≡ false
         shut a e = not_shut (not (same_bytes p.name_of q.name_of)) a (is_new_name p.name_of rest) e
     by_test false is = last_shut (is_writable p.name_of) (is_new_name p.name_of (ps ++ q ∷ rest)) (params_fit (ps ++ q ∷ rest)) (with_old ps q rest (and_false (not (same_bytes q.name_of p.name_of)) (is_new_name q.name_of ps) e (ap not is)))
+
+-- parameters that are put behind others one by one, and what is left of them
+pub record Growing (all params : List Param) (names : List (List ℕ)) (left : List Param) : Type 0 where
+  pub split : all ≡ params ++ left
+  pub named : names ≡ map (λ p. p.name) params
+  pub fits : params_fit (params_of_list params) ≡ true
+  pub left_fit : params_fit (params_of_list left) ≡ true
+
+pub begins : (params more : List Param) (names : List (List ℕ)) (left : List Param) → left ≡ more → names ≡ map (λ p. p.name) params
+    → params_fit (params_of_list params) ≡ true → params_fit (params_of_list more) ≡ true → Growing (params ++ more) params names left
+begins params more names left e named fits more_fit = record {
+  split = ap (λ (qs : List Param). params ++ qs) (sym e);
+  named = named;
+  fits = fits;
+  left_fit = subst (λ (qs : List Param). params_fit (params_of_list qs) ≡ true) (sym e) more_fit;
+}
+
+-- the first of those that are left
+split_at : (all params left left' : List Param) (p : Param) → all ≡ params ++ left → left ≡ p ∷ left' → all ≡ params ++ p ∷ left'
+split_at all params left left' p e f = e ∙ ap (λ (qs : List Param). params ++ qs) f
+
+first_fits : (left left' : List Param) (p : Param) → left ≡ p ∷ left' → params_fit (params_of_list left) ≡ true → params_fit (plain_param p ∷ params_of_list left') ≡ true
+first_fits left left' p e h = subst (λ (qs : List Param). params_fit (params_of_list qs) ≡ true) e h
+
+pub further : (all params more left left' : List Param) (names keys : List (List ℕ)) (p : Param) (x : List ℕ) (b : Bool) → Growing all params names left → left ≡ p ∷ left' → x ≡ p.name
+    → b ≡ not (list_any (pointwise nat_eq x) names) → b ≡ true → keys ≡ insert_key (pointwise nat_eq) names x → more ≡ params ++ p ∷ [] → Growing all more keys left'
+further all params more left left' names keys p x b g e same added new inserts pushed =
+    let first = first_fits left left' p e g.left_fit in
+    record {
+      split = split_at all params left left' p g.split e ∙ sym (append_assoc params (p ∷ []) left') ∙ ap (λ (qs : List Param). qs ++ left') (sym pushed);
+      named = inserts ∙ inserted x params names g.named (sym added ∙ new) p (sym same) ∙ ap (map (λ q. q.name)) (sym pushed);
+      fits = ap (λ (qs : List Param). params_fit (params_of_list qs)) pushed ∙ ap params_fit (params_append params (p ∷ []))
+          ∙ with_new (params_of_list params) (plain_param p) g.fits (first_of first) (said_new p.name x params names b g.named same added ∙ new);
+      left_fit = second_of (second_of first);
+    }
+
+-- one whose name stands there
+pub taken : (params more left left' known : List Param) (names : List (List ℕ)) (p : Param) (x : List ℕ) (b : Bool) → Growing (params ++ more) known names left → left ≡ p ∷ left' → x ≡ p.name
+    → b ≡ not (list_any (pointwise nat_eq x) names) → b ≡ false → params_fit (params_of_list params ++ params_of_list more) ≡ false
+taken params more left left' known names p x b g e same added old =
+    ap params_fit (sym (params_append params more) ∙ ap params_of_list (split_at (params ++ more) known left left' p g.split e) ∙ params_append known (p ∷ left'))
+    ∙ with_old (params_of_list known) (plain_param p) (params_of_list left') (said_new p.name x known names b g.named same added ∙ old)
+
+-- all of them
+append_none : (params : List Param) → params ++ [] ≡ params
+append_none [] = refl
+append_none (p ∷ params) = ap (λ (qs : List Param). p ∷ qs) (append_none params)
+
+pub are_all : (params more all left : List Param) (names : List (List ℕ)) → Growing (params ++ more) all names left → left ≡ [] → params_of_list all ≡ params_of_list params ++ params_of_list more
+are_all params more all left names g none =
+    ap params_of_list (sym (append_none all) ∙ ap (λ (qs : List Param). all ++ qs) (sym none) ∙ sym g.split) ∙ params_append params more
+
+pub all_high : (params more all left : List Param) (names : List (List ℕ)) → Growing (params ++ more) all names left → left ≡ []
+    → params_height (params_of_list all) ≡ max (params_height (params_of_list params)) (params_height (params_of_list more))
+all_high params more all left names g none = ap params_height (are_all params more all left names g none) ∙ params_append_high (params_of_list params) (params_of_list more)

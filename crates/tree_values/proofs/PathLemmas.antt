@@ -90,6 +90,19 @@ some_is e = cc
 none_some : {A : Type 0} {x : A} {P : Type 0} → None ≡ Some x → P
 none_some e = cc
 
+-- by the first key of those that are left
+pub key_missing : (e : PlainExpr) (left rest : List (Option Expr)) (k : Option Expr) → left ≡ k ∷ rest → k ≡ None → member_read e (path_of left) ≡ None
+key_missing e left rest k is none = ap (λ (ks : List (Option Expr)). member_read e (path_of ks)) is ∙ ap (λ (j : Option Expr). member_read e (more_keys (maybe_of j) (path_of rest))) none
+
+pub key_taken : (e f : PlainExpr) (left rest : List (Option Expr)) (k : Option Expr) (x : Expr) → left ≡ k ∷ rest → k ≡ Some x → f ≡ member_expr e (plain_expr x)
+    → member_read e (path_of left) ≡ member_read f (path_of rest)
+key_taken e f left rest k x is some same =
+    ap (λ (ks : List (Option Expr)). member_read e (path_of ks)) is ∙ ap (λ (j : Option Expr). member_read e (more_keys (maybe_of j) (path_of rest))) some
+    ∙ ap (λ (g : PlainExpr). member_read g (path_of rest)) (sym same)
+
+pub keys_done : (e : PlainExpr) (left : List (Option Expr)) → left ≡ [] → member_read e (path_of left) ≡ Some e
+keys_done e left none = ap (λ (ks : List (Option Expr)). member_read e (path_of ks)) none
+
 pub member_high : (e : PlainExpr) (ks : PlainPath) (f : PlainExpr) → member_read e ks ≡ Some f → height f ≡ read_height (height e) ks
 unfolding height
 member_high e no_keys f h = ap height (sym (some_is h))

@@ -56,12 +56,11 @@ pub fn given<'a>(alloc: Global, arguments: Vec<Argument<'a>>) -> Result<Option<R
 {
     let mut row = Row::empty(alloc);
     'arguments: for argument in arguments {
-        match argument.given(alloc)? {
-            None => return Ok(None),
-            Some(operand) => {
-                row = row.with(operand)?;
-            }
-        }
+        let found = argument.given(alloc)?;
+        let Some(operand) = found else {
+            return Ok(None);
+        };
+        row = row.with(operand)?;
     }
     Ok(Some(row))
 }

@@ -46,19 +46,23 @@ impl Params {
         if default.height >= HEIGHT_LIMIT {
             return Ok(Named::High);
         }
+        let known = name.copy(alloc)?;
         let mut names = IndexSet::new(alloc);
-        names.insert(name.copy(alloc)?)?;
+        names.insert(known)?;
+        let height = default.height + 1;
+        let name = name.copy(alloc)?;
         let param = Param {
-            name: name.copy(alloc)?,
+            name,
             default: default.tree,
         };
         let mut params = Vec::new(alloc);
         params.push(param)?;
-        Ok(Named::Params(Params {
+        let made = Params {
             params,
             names,
-            height: default.height + 1,
-        }))
+            height,
+        };
+        Ok(Named::Params(made))
     }
 
     /// These parameters, and then others; None where two have one name.
@@ -72,15 +76,18 @@ impl Params {
         let mut params = self.params;
         let mut names = self.names;
         'more: for param in others.params {
-            if !names.insert(param.name.copy(alloc)?)? {
+            let name = param.name.copy(alloc)?;
+            let added = names.insert(name)?;
+            if !added {
                 return Ok(None);
             }
             params.push(param)?;
         }
-        Ok(Some(Params {
+        let made = Params {
             params,
             names,
             height,
-        }))
+        };
+        Ok(Some(made))
     }
 }

@@ -36,12 +36,10 @@ fn member_by(alloc: Global, array: Expr, keys: Vec<Option<Expr>>) -> Result<Opti
 {
     let mut tree = array;
     'keys: for key in keys {
-        match key {
-            None => return Ok(None),
-            Some(key) => {
-                tree = member_tree(alloc, tree, key)?;
-            }
-        }
+        let Some(found) = key else {
+            return Ok(None);
+        };
+        tree = member_tree(alloc, tree, found)?;
     }
     Ok(Some(tree))
 }
@@ -55,10 +53,11 @@ pub fn read(alloc: Global, place: Place) -> Result<Option<Operand>, NoMemory>
 {
     let height = place.height;
     let array = variable_tree(alloc, place.name)?;
-    match member_by(alloc, array, place.keys)? {
-        None => Ok(None),
-        Some(tree) => Ok(Some(Operand { tree, height })),
-    }
+    let Some(tree) = member_by(alloc, array, place.keys)? else {
+        return Ok(None);
+    };
+    let operand = Operand { tree, height };
+    Ok(Some(operand))
 }
 
 impl<'a> Place<'a> {

@@ -108,7 +108,8 @@ fn variable(alloc: Global, name: &Bytes) -> Result<Operand, NoMemory>
     ensures { IfOk result (λ o. plain_expr o.tree ≡ tree_of_variable name.now) }
 {
     let tree = variable_tree(alloc, name)?;
-    Ok(Operand { tree, height: 1 })
+    let operand = Operand { tree, height: 1 };
+    Ok(operand)
 }
 
 // A key.
@@ -175,12 +176,10 @@ pub fn template(alloc: Global, parts: &[Part]) -> Result<Built, NoMemory>
     let mut left = parts;
     'parts: while let Some((part, behind)) = first_part(left) {
         let found = part_operand(alloc, part)?;
-        match found {
-            None => return Ok(Built::High),
-            Some(operand) => {
-                row = row.with(operand)?;
-            }
-        }
+        let Some(operand) = found else {
+            return Ok(Built::High);
+        };
+        row = row.with(operand)?;
         left = behind;
     }
     let below = row.height;
