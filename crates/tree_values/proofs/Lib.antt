@@ -7,3 +7,4 @@ pub mod NameLemmas
 pub mod TemplateLemmas
 pub mod OptionLemmas
 pub mod ArgumentLemmas
+pub mod ShownLemmas
