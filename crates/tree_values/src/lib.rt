@@ -4,6 +4,7 @@
 
 pub mod arguments;
 pub mod bodies;
+mod boxed;
 mod flags;
 pub mod nodes;
 pub mod params;

@@ -1,18 +1,21 @@
 //! Expressions that are built of others.
 
-ghost use Rattle.std.specs.Prelude.{◌≡◌, ◌+◌, true, max, codes, IfOk};
-ghost use Rattle.std.specs.Str.{str_to_ascii_lowercase};
-ghost use Rattle.php_syntax.specs.Trees.{plain_expr, text_expr, int_expr, exprs_of, items_of, maybe_of, path_of, join_expr, member_expr, array_expr, coalesce_expr, choice_expr, isset_expr, empty_expr, assign_expr, update_expr, step_expr, call_expr, no_expr, some_expr, more_exprs, no_exprs};
+ghost use Rattle.std.specs.Prelude.{◌≡◌, ◌+◌, true, IfOk};
+ghost use Rattle.php_syntax.specs.Trees.{PlainExpr, plain_expr, text_expr, int_expr, exprs_of, items_of, path_of, join_expr, member_expr, array_expr, coalesce_expr, choice_expr, isset_expr, empty_expr, assign_expr, update_expr, step_expr, call_expr, no_expr, some_expr};
 ghost use Rattle.php_syntax.specs.Height as highs;
 ghost use Rattle.script_grammar.specs.Rules.{expr_fits, all_places};
 ghost use Rattle.script_grammar.specs.Expressions as tree;
 ghost use Rattle.tree_values.specs.Shown.{Builds};
 
+use crate::boxed::{
+    assign_tree, choice_tree, coalesce_tree, empty_tree, member_tree, operator_tree, prefix_tree,
+    short_choice_tree, update_tree,
+};
 use crate::trees::{Chain, Items, Operand, Place, Row};
 use crate::value::Built;
-use php_syntax::tree::{Expr, Target, UpdateSign};
+use php_syntax::tree::{Expr, UpdateSign};
 use script_grammar::operator::{Operator, Prefix};
-use script_grammar::reserved::{is_writable, request_named};
+use script_grammar::reserved::is_writable;
 use script_grammar::shapes::is_place;
 use std::alloc::Global;
 use text_base::limits::HEIGHT_LIMIT;
@@ -22,7 +25,7 @@ use text_base::{Bytes, NoMemory};
 pub fn grown(tree: Expr, below: u32) -> Built
     requires high { highs.height (plain_expr tree) ≡ 1 + below }
     requires fits { expr_fits (plain_expr tree) ≡ true }
-    ensures { Builds result (plain_expr tree) }
+    ensures { (e : PlainExpr) → plain_expr tree ≡ e → Builds result e }
 {
     if below < HEIGHT_LIMIT {
         let height = below + 1;
@@ -50,42 +53,6 @@ pub fn integer(number: i64) -> Operand
     Operand { tree, height: 1 }
 }
 
-/// The tree of a variable: those of the request are their own.
-#[tactic(auto, using(php_syntax::proofs::Views::views))]
-pub fn variable_tree(alloc: Global, name: &Bytes) -> Result<Expr, NoMemory>
-    ensures { IfOk result (λ e. plain_expr e ≡ tree.variable_tree name.now) }
-{
-    match request_named(name.as_slice()) {
-        Some(of) => Ok(Expr::Super(of)),
-        None => Ok(Expr::Var(name.copy(alloc)?)),
-    }
-}
-
-// A call of a function of one argument.
-#[tactic(auto, using(php_syntax::proofs::Views::views))]
-fn call_of_one(alloc: Global, name: &[u8], argument: Expr) -> Result<Expr, NoMemory>
-    ensures { IfOk result (λ e. plain_expr e
-        ≡ call_expr name.now (more_exprs (plain_expr argument) no_exprs)) }
-{
-    let name = Bytes::from_slice(alloc, name)?;
-    let mut arguments = Vec::new(alloc);
-    arguments.push(argument)?;
-    Ok(Expr::Call(name, arguments))
-}
-
-// An operator before an operand. A cast is a call.
-#[tactic(auto, using(php_syntax::proofs::Views::views))]
-fn prefix_tree(alloc: Global, prefix: Prefix, operand: Expr) -> Result<Expr, NoMemory>
-    ensures { IfOk result (λ e. plain_expr e ≡ tree.prefix_tree prefix (plain_expr operand)) }
-{
-    match prefix {
-        Prefix::Not => Ok(Expr::Not(Box::new(alloc, operand)?)),
-        Prefix::Neg => Ok(Expr::Neg(Box::new(alloc, operand)?)),
-        Prefix::CastInt => call_of_one(alloc, b"intval", operand),
-        Prefix::CastString => call_of_one(alloc, b"strval", operand),
-    }
-}
-
 /// An operator before an operand.
 #[tactic(auto, using(crate::proofs::NodeLemmas::prefix_high, crate::proofs::NodeLemmas::prefix_fits))]
 pub fn prefix(alloc: Global, prefix: Prefix, operand: Operand) -> Result<Built, NoMemory>
@@ -94,50 +61,6 @@ pub fn prefix(alloc: Global, prefix: Prefix, operand: Operand) -> Result<Built, 
     let below = operand.height;
     let tree = prefix_tree(alloc, prefix, operand.tree)?;
     Ok(grown(tree, below))
-}
-
-// Two operands in boxes.
-fn boxes(alloc: Global, left: Expr, right: Expr) -> Result<(Box<Expr>, Box<Expr>), NoMemory>
-    ensures { IfOk result (λ pair. (pair.0.value ≡ left) × (pair.1.value ≡ right)) }
-{
-    Ok((Box::new(alloc, left)?, Box::new(alloc, right)?))
-}
-
-// An operator between two operands.
-#[tactic(auto, using(php_syntax::proofs::Views::views))]
-fn operator_tree(
-    alloc: Global,
-    operator: Operator,
-    left: Expr,
-    right: Expr,
-) -> Result<Expr, NoMemory>
-    ensures { IfOk result (λ e. plain_expr e
-        ≡ tree.operator_tree operator (plain_expr left) (plain_expr right)) }
-{
-    match operator {
-        Operator::Or => {
-            let (left, right) = boxes(alloc, left, right)?;
-            Ok(Expr::Or(left, right))
-        }
-        Operator::And => {
-            let (left, right) = boxes(alloc, left, right)?;
-            Ok(Expr::And(left, right))
-        }
-        Operator::Compare(sign) => {
-            let (left, right) = boxes(alloc, left, right)?;
-            Ok(Expr::Compare(sign, left, right))
-        }
-        Operator::Arith(sign) => {
-            let (left, right) = boxes(alloc, left, right)?;
-            Ok(Expr::Arith(sign, left, right))
-        }
-        Operator::Join => {
-            let mut parts = Vec::new(alloc);
-            parts.push(left)?;
-            parts.push(right)?;
-            Ok(Expr::Join(parts))
-        }
-    }
 }
 
 /// An operator between two operands.
@@ -157,40 +80,40 @@ pub fn operation(
 }
 
 /// `??` between two operands.
-#[tactic(auto, using(php_syntax::proofs::Views::views, crate::proofs::NodeLemmas::coalesce_high, crate::proofs::NodeLemmas::coalesce_fits))]
+#[tactic(auto, using(crate::proofs::NodeLemmas::coalesce_high, crate::proofs::NodeLemmas::coalesce_fits))]
 pub fn coalesce(alloc: Global, left: Operand, right: Operand) -> Result<Built, NoMemory>
     ensures { IfOk result (λ built.
         Builds built (coalesce_expr (plain_expr left.tree) (plain_expr right.tree))) }
 {
     let below = left.height.max(right.height);
-    let (left, right) = boxes(alloc, left.tree, right.tree)?;
-    Ok(grown(Expr::Coalesce(left, right), below))
+    let tree = coalesce_tree(alloc, left.tree, right.tree)?;
+    Ok(grown(tree, below))
 }
 
 /// A member of the first by the second.
-#[tactic(auto, using(php_syntax::proofs::Views::views, crate::proofs::NodeLemmas::member_high, crate::proofs::NodeLemmas::member_fits))]
+#[tactic(auto, using(crate::proofs::NodeLemmas::member_high, crate::proofs::NodeLemmas::member_fits))]
 pub fn member(alloc: Global, array: Operand, key: Operand) -> Result<Built, NoMemory>
     ensures { IfOk result (λ built.
         Builds built (member_expr (plain_expr array.tree) (plain_expr key.tree))) }
 {
     let below = array.height.max(key.height);
-    let (array, key) = boxes(alloc, array.tree, key.tree)?;
-    Ok(grown(Expr::Member(array, key), below))
+    let tree = member_tree(alloc, array.tree, key.tree)?;
+    Ok(grown(tree, below))
 }
 
 /// `?:` between two operands.
-#[tactic(auto, using(php_syntax::proofs::Views::views, crate::proofs::NodeLemmas::short_choice_high, crate::proofs::NodeLemmas::short_choice_fits))]
+#[tactic(auto, using(crate::proofs::NodeLemmas::short_choice_high, crate::proofs::NodeLemmas::short_choice_fits))]
 pub fn short_choice(alloc: Global, left: Operand, right: Operand) -> Result<Built, NoMemory>
     ensures { IfOk result (λ built.
         Builds built (choice_expr (plain_expr left.tree) no_expr (plain_expr right.tree))) }
 {
     let below = left.height.max(right.height);
-    let (left, right) = boxes(alloc, left.tree, right.tree)?;
-    Ok(grown(Expr::Choice(left, None, right), below))
+    let tree = short_choice_tree(alloc, left.tree, right.tree)?;
+    Ok(grown(tree, below))
 }
 
 /// `?` and `:` between three operands.
-#[tactic(auto, using(php_syntax::proofs::Views::views, crate::proofs::NodeLemmas::choice_high, crate::proofs::NodeLemmas::choice_fits))]
+#[tactic(auto, using(crate::proofs::NodeLemmas::choice_high, crate::proofs::NodeLemmas::choice_fits))]
 pub fn choice(
     alloc: Global,
     left: Operand,
@@ -201,9 +124,8 @@ pub fn choice(
         (choice_expr (plain_expr left.tree) (some_expr (plain_expr middle.tree)) (plain_expr right.tree))) }
 {
     let below = left.height.max(middle.height.max(right.height));
-    let (left, right) = boxes(alloc, left.tree, right.tree)?;
-    let middle = Box::new(alloc, middle.tree)?;
-    Ok(grown(Expr::Choice(left, Some(middle), right), below))
+    let tree = choice_tree(alloc, left.tree, middle.tree, right.tree)?;
+    Ok(grown(tree, below))
 }
 
 /// A chain of `.` as an expression.
@@ -243,7 +165,7 @@ pub fn isset(row: Row) -> Built
 }
 
 /// `empty` of an operand.
-#[tactic(auto, using(php_syntax::proofs::Views::views, crate::proofs::NodeLemmas::empty_high, crate::proofs::NodeLemmas::empty_fits, crate::proofs::NodeLemmas::empty_broken))]
+#[tactic(auto, using(crate::proofs::NodeLemmas::empty_high, crate::proofs::NodeLemmas::empty_fits, crate::proofs::NodeLemmas::empty_broken))]
 pub fn empty(alloc: Global, operand: Operand) -> Result<Built, NoMemory>
     ensures { IfOk result (λ built. Builds built (empty_expr (plain_expr operand.tree))) }
 {
@@ -251,7 +173,8 @@ pub fn empty(alloc: Global, operand: Operand) -> Result<Built, NoMemory>
         return Ok(Built::Broken);
     }
     let below = operand.height;
-    Ok(grown(Expr::Empty(Box::new(alloc, operand.tree)?), below))
+    let tree = empty_tree(alloc, operand.tree)?;
+    Ok(grown(tree, below))
 }
 
 /// A call of a function by its name in lower case.
@@ -273,7 +196,7 @@ pub fn array(items: Items) -> Built
 }
 
 /// An assignment to a variable by keys.
-#[tactic(auto, using(php_syntax::proofs::Views::views, crate::proofs::NodeLemmas::assign_high, crate::proofs::NodeLemmas::assign_fits, crate::proofs::NodeLemmas::unwritable_assign, crate::proofs::NodeLemmas::unkeyed_assign))]
+#[tactic(auto, using(crate::proofs::NodeLemmas::assign_high, crate::proofs::NodeLemmas::assign_fits, crate::proofs::NodeLemmas::unwritable_assign, crate::proofs::NodeLemmas::unkeyed_assign))]
 pub fn assign(alloc: Global, place: Place, value: Operand) -> Result<Built, NoMemory>
     ensures { IfOk result (λ built. Builds built
         (assign_expr place.entry.name.now (path_of place.entry.keys.items) (plain_expr value.tree))) }
@@ -283,13 +206,12 @@ pub fn assign(alloc: Global, place: Place, value: Operand) -> Result<Built, NoMe
     }
     let below = (place.highest + 1).max(value.height);
     let name = place.name.copy(alloc)?;
-    let path = place.keys;
-    let value = Box::new(alloc, value.tree)?;
-    Ok(grown(Expr::Assign(Target { name, path }, value), below))
+    let tree = assign_tree(alloc, name, place.keys, value.tree)?;
+    Ok(grown(tree, below))
 }
 
 /// An assignment that reads its target first.
-#[tactic(auto, using(php_syntax::proofs::Views::views, crate::proofs::NodeLemmas::update_high, crate::proofs::NodeLemmas::update_fits, crate::proofs::NodeLemmas::unwritable_update, crate::proofs::NodeLemmas::unkeyed_update))]
+#[tactic(auto, using(crate::proofs::NodeLemmas::update_high, crate::proofs::NodeLemmas::update_fits, crate::proofs::NodeLemmas::unwritable_update, crate::proofs::NodeLemmas::unkeyed_update))]
 pub fn update(
     alloc: Global,
     sign: UpdateSign,
@@ -304,9 +226,8 @@ pub fn update(
     }
     let below = (place.highest + 1).max(value.height);
     let name = place.name.copy(alloc)?;
-    let path = place.keys;
-    let value = Box::new(alloc, value.tree)?;
-    Ok(grown(Expr::Update(sign, Target { name, path }, value), below))
+    let tree = update_tree(alloc, sign, name, place.keys, value.tree)?;
+    Ok(grown(tree, below))
 }
 
 /// `++` (`up`) or `--` of a variable, before it or after it.

@@ -2,31 +2,21 @@
 
 ghost use Rattle.std.specs.Prelude.{◌≡◌, ◌<◌, false, Some, None, MatchOption, IfOk};
 ghost use Rattle.text_base.specs.declared.limits.TheConstants.{HEIGHT_LIMIT};
-ghost use Rattle.php_syntax.specs.Trees.{plain_expr, maybe_of, path_of, member_expr, more_keys, no_keys};
+ghost use Rattle.php_syntax.specs.Trees.{plain_expr, maybe_of, path_of, more_keys, no_keys};
 ghost use Rattle.script_grammar.specs.Expressions.{variable_tree as tree_of_variable};
 ghost use Rattle.script_grammar.specs.Rules.{is_known};
 ghost use Rattle.script_rules.specs.Parts.{read_height};
 ghost use Rattle.php_trees.specs.Values as plain;
 ghost use Rattle.php_trees.specs.Values.{path_and, member_read};
 
+use crate::boxed::{member_tree, variable_tree};
 use crate::flags::both;
-use crate::nodes::variable_tree;
 use crate::trees::{Operand, Optional, Place};
 use php_syntax::tree::Expr;
 use script_grammar::reserved::is_known;
 use std::alloc::Global;
 use text_base::limits::HEIGHT_LIMIT;
 use text_base::{Bytes, NoMemory};
-
-// A member of the first by the second.
-#[tactic(auto, using(php_syntax::proofs::Views::views))]
-fn member_tree(alloc: Global, array: Expr, key: Expr) -> Result<Expr, NoMemory>
-    ensures { IfOk result (λ e. plain_expr e ≡ member_expr (plain_expr array) (plain_expr key)) }
-{
-    let array = Box::new(alloc, array)?;
-    let key = Box::new(alloc, key)?;
-    Ok(Expr::Member(array, key))
-}
 
 // The member by keys, the outermost first; None where one is left out.
 fn member_by(alloc: Global, array: Expr, keys: Vec<Option<Expr>>) -> Result<Option<Expr>, NoMemory>

@@ -9,8 +9,9 @@ ghost use Rattle.script_grammar.specs.Expressions.{key_tree, read_tree, part_tre
 ghost use Rattle.script_grammar.specs.Rules.{expr_fits, exprs_fit};
 ghost use Rattle.tree_values.specs.Shown.{Builds};
 
+use crate::boxed::variable_tree;
 use crate::flags::both;
-use crate::nodes::{grown, integer, member, text, variable_tree};
+use crate::nodes::{grown, integer, member, text};
 use crate::trees::{Operand, Row};
 use crate::value::Built;
 use php_syntax::token::{Part, PartKey};
