@@ -1,6 +1,6 @@
 //! How many brackets are open at once.
 
-ghost use Rattle.std.specs.Prelude.{◌≡◌, ◌<◌, ◌≤◌, ◌∷◌, [], MatchOption};
+ghost use Rattle.std.specs.Prelude.{◌≡◌, ◌<◌, ◌≤◌, MatchOption};
 ghost use Rattle.php_syntax.specs.Tokens.{plain_kind};
 ghost use Rattle.script_grammar.specs.Terminals.{terminal_of, terminals};
 ghost use Rattle.script_grammar.specs.Grammar.{open_after, open_after_sign, most_open};
@@ -8,6 +8,7 @@ ghost use Rattle.php_syntax.specs.Tokens.{plain_tokens};
 
 use php_syntax::token::{Sign, Token, TokenKind};
 use text_base::limits::HEIGHT_LIMIT;
+use tree_builder::kinds::first_token;
 
 // How many are open behind a sign.
 fn behind_sign(count: u32, sign: Sign) -> u32
@@ -35,16 +36,6 @@ fn behind(count: u32, kind: &TokenKind) -> u32
         TokenKind::Sign(sign) => behind_sign(count, *sign),
         TokenKind::Inline(_) | TokenKind::Var(_) | TokenKind::Name(_) => count,
         TokenKind::Int(_) | TokenKind::Str(_) | TokenKind::Template(_) => count,
-    }
-}
-
-// The first token, and those behind it.
-fn first_token(tokens: &[Token]) -> Option<(&Token, &[Token])>
-    ensures { MatchOption result (tokens.now ≡ []) (λ found. tokens.now ≡ found.0.now ∷ found.1.now) }
-{
-    match tokens {
-        [] => None,
-        [token, behind @ ..] => Some((token, behind)),
     }
 }
 

@@ -18,9 +18,9 @@ ghost use Rattle.tree_builder.specs.Steps.{Steps};
 ghost use Rattle.lr_tables.specs.declared.event.Event.TheVariants as event;
 
 use crate::gathered::{Gathered, LeftOut, Part, place_or_0};
-use crate::parts::{judge, take};
+use crate::kinds::first_token;
+use crate::parts::{judge, rule_at, take};
 use lr_tables::Event;
-use php_grammar::rules::RULES;
 use php_syntax::token::Token;
 use php_syntax::tree::FileTree;
 use std::alloc::Global;
@@ -61,38 +61,36 @@ impl<'a> Builder<'a> {
     fn token(&mut self) -> Result<Step, NoMemory>
         ensures { IfOk result (λ step. Steps event.Token self.old self.new step) }
     {
-        match self.rest {
-            [] => Ok(Step::Short),
-            [token, behind @ ..] => {
-                self.stack.push(Part {
-                    begins: Some(token.at),
-                    value: Some(Value::Leaf(&token.kind)),
-                    left_out: None,
-                })?;
-                self.rest = behind;
-                Ok(Step::On)
-            }
-        }
+        let Some((token, behind)) = first_token(self.rest) else {
+            return Ok(Step::Short);
+        };
+        let part = Part {
+            begins: Some(token.at),
+            value: Some(Value::Leaf(&token.kind)),
+            left_out: None,
+        };
+        self.stack.push(part)?;
+        self.rest = behind;
+        Ok(Step::On)
     }
 
     // The parts of a rule are one part.
     fn rule(&mut self, alloc: Global, number: u16) -> Result<Step, NoMemory>
         ensures { IfOk result (λ step. Steps (event.Rule number) self.old self.new step) }
     {
-        let Some(rule) = RULES.get(number as usize) else {
+        let Some(rule) = rule_at(number) else {
             return Ok(Step::Short);
         };
-        let Some(gathered) = take(rule, &mut self.stack) else {
+        let Some(gathered) = take(&rule.back, &mut self.stack) else {
             return Ok(Step::Short);
         };
         let at = place_or_0(gathered.summary.begins);
-        match judge(alloc, number, gathered)? {
-            None => Ok(Step::High(at)),
-            Some(part) => {
-                self.stack.push(part)?;
-                Ok(Step::On)
-            }
-        }
+        let found = judge(alloc, number, gathered)?;
+        let Some(part) = found else {
+            return Ok(Step::High(at));
+        };
+        self.stack.push(part)?;
+        Ok(Step::On)
     }
 
     // What one event makes.
@@ -130,7 +128,8 @@ pub fn build(alloc: Global, events: &[Event], tokens: &[Token]) -> Result<Outcom
         rest: tokens,
     };
     'events: for told in events {
-        match builder.step(alloc, *told)? {
+        let step = builder.step(alloc, *told)?;
+        match step {
             Step::On => {}
             Step::High(at) => return Ok(Outcome::High(at)),
             Step::Short => return Err(NoMemory),

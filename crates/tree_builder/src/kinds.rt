@@ -1,6 +1,6 @@
 //! Which terminals of PHP's grammar tokens are.
 
-ghost use Rattle.std.specs.Prelude.{◌≡◌, ◌++◌, IfOk, map};
+ghost use Rattle.std.specs.Prelude.{◌≡◌, ◌++◌, ◌∷◌, [], IfOk, MatchOption, map};
 ghost use Rattle.lr_tables.specs.Values.{kinds as kinds_of};
 ghost use Rattle.php_syntax.specs.Tokens.{plain_kind, plain_tokens};
 ghost use Rattle.php_trees.specs.Kinds as plain;
@@ -196,6 +196,16 @@ fn kind_of(kind: &TokenKind) -> u16
         TokenKind::Str(_) => terminal::TEXT,
         TokenKind::Template(_) => terminal::TEMPLATE,
         TokenKind::Sign(sign) => sign_kind(*sign),
+    }
+}
+
+/// The first token, and those behind it.
+pub fn first_token(tokens: &[Token]) -> Option<(&Token, &[Token])>
+    ensures { MatchOption result (tokens.now ≡ []) (λ found. tokens.now ≡ found.0.now ∷ found.1.now) }
+{
+    match tokens {
+        [] => None,
+        [token, behind @ ..] => Some((token, behind)),
     }
 }
 

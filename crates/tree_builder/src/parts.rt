@@ -1,6 +1,6 @@
 //! The parts of a script, each with what the language leaves out of it.
 
-ghost use Rattle.std.specs.Prelude.{◌≡◌, [], false, true, List, Some, None, IfOk, MatchOption, is_some, length, map, slice_get};
+ghost use Rattle.std.specs.Prelude.{◌≡◌, ◌≤◌, [], false, true, List, Some, None, IfOk, MatchOption, is_some, length, map, slice_get};
 ghost use Rattle.lr_tables.specs.Grammars.{named, head, onto};
 ghost use Rattle.lr_tables.specs.Values.{taken};
 ghost use Rattle.php_grammar.specs.declared.rules.TheConstants.{RULES as rules};
@@ -19,7 +19,7 @@ use text_base::{NoMemory, Stack};
 use tree_actions::actions::act;
 use tree_values::value::{Made, Value};
 
-/// What the rule of this number makes.
+// What the rule of this number makes.
 fn action_by(number: u16) -> Action
     ensures { result ≡ plain.action_by number }
 {
@@ -49,7 +49,7 @@ fn broken_form(action: Action, form: Form) -> Form
     }
 }
 
-/// The form that the rule of this number is.
+// The form that the rule of this number is.
 fn form_by(number: u16) -> Form
     ensures { result ≡ plain.form_by number }
 {
@@ -87,29 +87,41 @@ fn first_symbol(back: &[u16; 10]) -> u16
     first
 }
 
-/// Whether the rule of this number goes on with what it makes itself.
+/// The rule of this number, if there is one.
+pub(crate) fn rule_at(number: u16) -> Option<&'static Rule>
+    ensures { MatchOption result (slice_get rules number ≡ None) (λ r. slice_get rules number ≡ Some r.now) }
+{
+    RULES.get(number as usize)
+}
+
+// Whether the rule of this number goes on with what it makes itself.
 fn continues(number: u16) -> bool
     ensures { result ≡ plain.continues (slice_get rules number) }
 {
-    match RULES.get(number as usize) {
-        Some(rule) => first_symbol(&rule.back) == rule.left,
-        None => false,
-    }
+    let Some(rule) = rule_at(number) else {
+        return false;
+    };
+    first_symbol(&rule.back) == rule.left
 }
 
-/// Takes the parts of a rule from the stack; None where it has too few.
-pub(crate) fn take<'a>(rule: &Rule, stack: &mut Stack<Part<'a>>) -> Option<Gathered<'a>>
+/// Takes a part for each symbol of a right side from behind from the stack; None where it has too
+/// few.
+pub(crate) fn take<'a>(back: &[u16], stack: &mut Stack<Part<'a>>) -> Option<Gathered<'a>>
+    requires { length back.now ≤ 10 }
     ensures { MatchOption result
-        (taken (named rule.now.back) (map plain_part stack.old) [] ≡ None)
-        (IsTaken (named rule.now.back) (map plain_part stack.old) (map plain_part stack.new)) }
+        (taken (named back.now) (map plain_part stack.old) [] ≡ None)
+        (IsTaken (named back.now) (map plain_part stack.old) (map plain_part stack.new)) }
 {
-    let mut place = count(&rule.back);
+    let mut place = count(back);
     let mut gathered = Gathered::none();
-    'symbols: for symbol in &rule.back {
-        if *symbol == 0 {
+    'symbols: for symbol in back {
+        let ends = *symbol == 0;
+        if ends {
             return Some(gathered);
         }
-        let part = stack.pop()?;
+        let Some(part) = stack.pop() else {
+            return None;
+        };
         place -= 1;
         gathered = gathered.with(place, part);
     }
@@ -191,17 +203,18 @@ pub(crate) fn judge<'a>(
         → MatchOption found ((plain.judge number ps).high ≡ true) (λ part. plain_part part ≡ plain.judge number ps)) }
 {
     let Gathered { summary, values } = gathered;
-    match values {
-        None => Ok(Some(summary.part(number, false))),
-        Some(right) => match act(alloc, action_by(number), right)? {
-            Made::Value(value) => Ok(Some(Part {
-                begins: summary.begins,
-                value: Some(value),
-                left_out: None,
-            })),
-            Made::High => Ok(None),
-            Made::Nothing => Ok(Some(summary.part(number, false))),
-            Made::Broken => Ok(Some(summary.part(number, true))),
-        },
+    let Some(right) = values else {
+        return Ok(Some(summary.part(number, false)));
+    };
+    let made = act(alloc, action_by(number), right)?;
+    match made {
+        Made::Value(value) => Ok(Some(Part {
+            begins: summary.begins,
+            value: Some(value),
+            left_out: None,
+        })),
+        Made::High => Ok(None),
+        Made::Nothing => Ok(Some(summary.part(number, false))),
+        Made::Broken => Ok(Some(summary.part(number, true))),
     }
 }
