@@ -74,7 +74,7 @@ new_append x (p ∷ ps) qs = ap (λ (t : Bool). not (same_bytes x p.name_of) && 
 pub with_new : (ps : List PlainParam) (q : PlainParam) → params_fit ps ≡ true → is_writable q.name_of ≡ true → is_new_name q.name_of ps ≡ true → params_fit (ps ++ q ∷ []) ≡ true
 with_new [] q h i j = both i refl
 with_new (p ∷ ps) q h i j =
-    both (first_of h) (both (new_append p.name_of ps (q ∷ []) ∙ both (first_of (second_of h)) (both (ap not (same_both p.name_of q.name_of) ∙ first_of j) refl)) (with_new ps q (second_of (second_of h)) i (second_of j)))
+    both (first_of _ _ h) (both (new_append p.name_of ps (q ∷ []) ∙ both (first_of _ _ (second_of _ _ h)) (both (ap not (same_both p.name_of q.name_of) ∙ first_of _ _ j) refl)) (with_new ps q (second_of _ _ (second_of _ _ h)) i (second_of _ _ j)))
 
 not_shut : (a b c : Bool) → a ≡ false → (b && (a && c)) ≡ false
 not_shut a true c e = ap (λ (t : Bool). t && c) e
@@ -135,8 +135,8 @@ further all params more left left' names keys p x b g e same added new inserts p
       split = split_at all params left left' p g.split e ∙ sym (append_assoc params (p ∷ []) left') ∙ ap (λ (qs : List Param). qs ++ left') (sym pushed);
       named = inserts ∙ inserted x params names g.named (sym added ∙ new) p (sym same) ∙ ap (map (λ q. q.name)) (sym pushed);
       fits = ap (λ (qs : List Param). params_fit (params_of_list qs)) pushed ∙ ap params_fit (params_append params (p ∷ []))
-          ∙ with_new (params_of_list params) (plain_param p) g.fits (first_of first) (said_new p.name x params names b g.named same added ∙ new);
-      left_fit = second_of (second_of first);
+          ∙ with_new (params_of_list params) (plain_param p) g.fits (first_of _ _ first) (said_new p.name x params names b g.named same added ∙ new);
+      left_fit = second_of _ _ (second_of _ _ first);
     }
 
 -- one whose name stands there

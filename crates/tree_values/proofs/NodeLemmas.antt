@@ -1,11 +1,9 @@
 -- Heights of nodes, and when they keep the rules beside the grammar.
-use Rattle.std.proofs.Common.{◌≡◌, ℕ, ◌+◌, ◌<◌, ◌≤◌, Bool, true, false, List, [], ◌∷◌, drop, get_or, length, refl, ap, ◌∙◌, sym, arith}
+use Rattle.std.proofs.Common.{◌≡◌, ℕ, ◌+◌, Bool, true, false, List, [], ◌∷◌, refl, ap, ◌∙◌, sym, arith}
 use Rattle.std.specs.Prelude.{max, ◌&&◌}
-use Rattle.std.proofs.lemmas.List.{drop_all}
 use Rattle.php_syntax.specs.declared.tree.ArithSign.{ArithSign}
-use Rattle.php_syntax.specs.declared.tree.Expr.{Expr}
 use Rattle.php_syntax.specs.declared.tree.UpdateSign.{UpdateSign}
-use Rattle.php_syntax.specs.Trees.{PlainExpr, PlainExprs, PlainItems, PlainPath, MaybeExpr, int_expr, text_expr, var_expr, super_expr, member_expr, array_expr, join_expr, coalesce_expr, choice_expr, isset_expr, empty_expr, assign_expr, update_expr, step_expr, call_expr, no_expr, some_expr, no_exprs, more_exprs, plain_expr, exprs_of}
+use Rattle.php_syntax.specs.Trees.{PlainExpr, PlainExprs, PlainItems, PlainPath, MaybeExpr, int_expr, text_expr, var_expr, super_expr, member_expr, array_expr, join_expr, coalesce_expr, choice_expr, isset_expr, empty_expr, assign_expr, update_expr, step_expr, call_expr, no_expr, some_expr, no_exprs, more_exprs}
 use Rattle.php_syntax.specs.Height.{height, maybe_height, exprs_height, items_height, path_height}
 use Rattle.script_grammar.specs.declared.operator.Operator.{Operator}
 use Rattle.script_grammar.specs.declared.operator.Operator.TheVariants as operator
@@ -13,24 +11,26 @@ use Rattle.script_grammar.specs.declared.operator.Prefix.{Prefix}
 use Rattle.script_grammar.specs.declared.operator.Prefix.TheVariants as prefix
 use Rattle.script_grammar.specs.Rules.{expr_fits, maybe_fits, exprs_fit, items_fit, path_fits, is_writable, keyed_before_last, all_keyed, all_places, is_place}
 use Rattle.script_grammar.specs.Expressions.{prefix_tree, operator_tree}
-use Rattle.tree_values.proofs.OptionLemmas.{drop_here}
 
 pub both : {a b : Bool} → a ≡ true → b ≡ true → (a && b) ≡ true
 both {a = true} {b = true} e f = refl
 both {a = true} {b = false} e f = f
 both {a = false} {b = b} e f = e
 
-pub first_of : {a b : Bool} → (a && b) ≡ true → a ≡ true
-first_of {a = true} {b = b} e = refl
-first_of {a = false} {b = b} e = e
+pub first_of : (a b : Bool) → (a && b) ≡ true → a ≡ true
+first_of true b e = refl
+first_of false b e = e
 
-pub second_of : {a b : Bool} → (a && b) ≡ true → b ≡ true
-second_of {a = true} {b = b} e = e
-second_of {a = false} {b = true} e = refl
-second_of {a = false} {b = false} e = e
+pub second_of : (a b : Bool) → (a && b) ≡ true → b ≡ true
+second_of true b e = e
+second_of false true e = refl
+second_of false false e = e
 
 max_none : (n : ℕ) → max n 0 ≡ n
 max_none n = omega arith
+
+none_max : (n : ℕ) → max 0 n ≡ n
+none_max n = omega arith
 
 -- heights
 
@@ -59,7 +59,7 @@ member_high a b = refl
 
 pub short_choice_high : (a b : PlainExpr) → height (choice_expr a no_expr b) ≡ 1 + max (height a) (height b)
 unfolding height
-short_choice_high a b = refl
+short_choice_high a b = ap (λ (n : ℕ). 1 + max (height a) n) (none_max (height b))
 
 pub choice_high : (a m b : PlainExpr) → height (choice_expr a (some_expr m) b) ≡ 1 + max (height a) (max (height m) (height b))
 unfolding height
@@ -193,14 +193,3 @@ step_fits x up before h = h
 pub step_broken : (x : List ℕ) (up before : Bool) → is_writable x ≡ false → expr_fits (step_expr x up before) ≡ false
 unfolding expr_fits
 step_broken x up before h = h
-
--- expressions from a place on
-
-pub places_next : (xs : List Expr) (i : ℕ) (x : Expr) → i < length xs → x ≡ get_or xs i x → is_place (plain_expr x) ≡ true → all_places (exprs_of (drop i xs)) ≡ all_places (exprs_of (drop (i + 1) xs))
-places_next xs i x lt is h = ap (λ (es : List Expr). all_places (exprs_of es)) (drop_here xs i x lt is) ∙ ap (λ (b : Bool). b && all_places (exprs_of (drop (i + 1) xs))) h
-
-pub places_shut : (xs : List Expr) (i : ℕ) (x : Expr) → i < length xs → x ≡ get_or xs i x → is_place (plain_expr x) ≡ false → all_places (exprs_of (drop i xs)) ≡ false
-places_shut xs i x lt is h = ap (λ (es : List Expr). all_places (exprs_of es)) (drop_here xs i x lt is) ∙ ap (λ (b : Bool). b && all_places (exprs_of (drop (i + 1) xs))) h
-
-pub places_end : (xs : List Expr) (i : ℕ) → length xs ≤ i → all_places (exprs_of (drop i xs)) ≡ true
-places_end xs i le = ap (λ (es : List Expr). all_places (exprs_of es)) (drop_all i xs le)

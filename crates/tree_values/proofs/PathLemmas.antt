@@ -40,7 +40,7 @@ read_height_with ks k = read_height_push 1 ks k
 pub path_fits_push : (ks : PlainPath) (k : MaybeExpr) → path_fits ks ≡ true → maybe_fits k ≡ true → path_fits (and_key ks k) ≡ true
 unfolding expr_fits
 path_fits_push no_keys k h i = both i refl
-path_fits_push (more_keys j ks) k h i = both (first_of h) (path_fits_push ks k (second_of h) i)
+path_fits_push (more_keys j ks) k h i = both (first_of _ _ h) (path_fits_push ks k (second_of _ _ h) i)
 
 -- whether a key is written
 abbrev pub is_written : MaybeExpr → Bool
@@ -113,6 +113,6 @@ pub member_fits : (e : PlainExpr) (ks : PlainPath) (f : PlainExpr) → member_re
 unfolding expr_fits
 member_fits e no_keys f h i j = ap expr_fits (sym (some_is h)) ∙ i
 member_fits e (more_keys no_expr ks) f h i j = none_some h
-member_fits e (more_keys (some_expr k) ks) f h i j = member_fits (member_expr e k) ks f h (both i (first_of j)) (second_of j)
+member_fits e (more_keys (some_expr k) ks) f h i j = member_fits (member_expr e k) ks f h (both i (first_of _ _ j)) (second_of _ _ j)
 
 pub ruleset paths = (path_push, path_height_push, read_height_with, path_fits_push, is_written_some, all_keyed_push, keyed_before_push, variable_high, variable_fits)

@@ -41,7 +41,7 @@ exprs_push_high (more_exprs f es) e = ap (max (height f)) (exprs_push_high es e)
 
 pub one_expr_fits : (e : PlainExpr) → exprs_fit (more_exprs e no_exprs) ≡ true → expr_fits e ≡ true
 unfolding expr_fits
-one_expr_fits e h = first_of h
+one_expr_fits e h = first_of _ _ h
 
 pub two_exprs_fit : (e f : PlainExpr) → expr_fits e ≡ true → expr_fits f ≡ true → exprs_fit (more_exprs e (more_exprs f no_exprs)) ≡ true
 unfolding expr_fits
@@ -50,7 +50,7 @@ two_exprs_fit e f h i = both h (both i refl)
 pub exprs_push_fit : (es : PlainExprs) (e : PlainExpr) → exprs_fit es ≡ true → expr_fits e ≡ true → exprs_fit (and_expr es e) ≡ true
 unfolding expr_fits
 exprs_push_fit no_exprs e h i = both i refl
-exprs_push_fit (more_exprs f es) e h i = both (first_of h) (exprs_push_fit es e (second_of h) i)
+exprs_push_fit (more_exprs f es) e h i = both (first_of _ _ h) (exprs_push_fit es e (second_of _ _ h) i)
 
 pub one_item_high : (k : MaybeExpr) (e : PlainExpr) → items_height (more_items k e no_items) ≡ max (maybe_height k) (height e)
 unfolding height
@@ -75,4 +75,4 @@ items_append_high (more_items k e is) js = ap (λ (n : ℕ). max (maybe_height k
 pub items_append_fit : (is js : PlainItems) → items_fit is ≡ true → items_fit js ≡ true → items_fit (items_and is js) ≡ true
 unfolding expr_fits
 items_append_fit no_items js h i = i
-items_append_fit (more_items k e is) js h i = both (first_of h) (both (first_of (second_of h)) (items_append_fit is js (second_of (second_of h)) i))
+items_append_fit (more_items k e is) js h i = both (first_of _ _ h) (both (first_of _ _ (second_of _ _ h)) (items_append_fit is js (second_of _ _ (second_of _ _ h)) i))

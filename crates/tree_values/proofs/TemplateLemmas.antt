@@ -52,10 +52,10 @@ keys_end a b left e h = h ∙ ap (λ (l : List PlainKey). a && keys_fit l) e ∙
 -- members by keys keep the rules where what they are of and the keys do
 pub read_fits : (e : PlainExpr) (ks : List PlainKey) → expr_fits (read_tree e ks) ≡ true → expr_fits e ≡ true
 read_fits e [] h = h
-read_fits e (k ∷ ks) h = first_of (sym (member_is e (key_tree k)) ∙ read_fits (member_expr e (key_tree k)) ks h)
+read_fits e (k ∷ ks) h = first_of _ _ (sym (member_is e (key_tree k)) ∙ read_fits (member_expr e (key_tree k)) ks h)
 
 pub key_fits : (e : PlainExpr) (k : PlainKey) (ks : List PlainKey) → expr_fits (read_tree e (k ∷ ks)) ≡ true → expr_fits (key_tree k) ≡ true
-key_fits e k ks h = second_of (sym (member_is e (key_tree k)) ∙ read_fits (member_expr e (key_tree k)) ks h)
+key_fits e k ks h = second_of _ _ (sym (member_is e (key_tree k)) ∙ read_fits (member_expr e (key_tree k)) ks h)
 
 member_higher : (a b : PlainExpr) → height a ≤ height (member_expr a b)
 unfolding height
@@ -90,16 +90,16 @@ no_parts left e = ap (λ (l : List PlainPart). exprs_fit (part_trees l)) e
 
 pub part_fits : (e : PlainExpr) (es : PlainExprs) → exprs_fit (more_exprs e es) ≡ true → expr_fits e ≡ true
 unfolding expr_fits
-part_fits e es h = first_of h
+part_fits e es h = first_of _ _ h
 
 pub parts_fit : (e : PlainExpr) (es : PlainExprs) → exprs_fit (more_exprs e es) ≡ true → exprs_fit es ≡ true
 unfolding expr_fits
-parts_fit e es h = second_of h
+parts_fit e es h = second_of _ _ h
 
 pub among_fits : (es : PlainExprs) (e : PlainExpr) (fs : PlainExprs) → exprs_fit (exprs_and es (more_exprs e fs)) ≡ true → expr_fits e ≡ true
 unfolding expr_fits
-among_fits no_exprs e fs h = first_of h
-among_fits (more_exprs f es) e fs h = among_fits es e fs (second_of h)
+among_fits no_exprs e fs h = first_of _ _ h
+among_fits (more_exprs f es) e fs h = among_fits es e fs (second_of _ _ h)
 
 -- what is higher stays so among others
 pub part_higher : (es : PlainExprs) (e : PlainExpr) (fs : PlainExprs) → height e ≤ exprs_height (exprs_and es (more_exprs e fs))

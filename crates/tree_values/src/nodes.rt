@@ -1,7 +1,7 @@
 //! Expressions that are built of others.
 
 ghost use Rattle.std.specs.Prelude.{◌≡◌, ◌+◌, true, IfOk};
-ghost use Rattle.php_syntax.specs.Trees.{PlainExpr, plain_expr, text_expr, int_expr, exprs_of, items_of, path_of, join_expr, member_expr, array_expr, coalesce_expr, choice_expr, isset_expr, empty_expr, assign_expr, update_expr, step_expr, call_expr, no_expr, some_expr};
+ghost use Rattle.php_syntax.specs.Trees.{plain_expr, text_expr, int_expr, exprs_of, items_of, path_of, join_expr, member_expr, array_expr, coalesce_expr, choice_expr, isset_expr, empty_expr, assign_expr, update_expr, step_expr, call_expr, no_expr, some_expr};
 ghost use Rattle.php_syntax.specs.Height as highs;
 ghost use Rattle.script_grammar.specs.Rules.{expr_fits, all_places};
 ghost use Rattle.script_grammar.specs.Expressions as tree;
@@ -25,7 +25,7 @@ use text_base::{Bytes, NoMemory};
 pub fn grown(tree: Expr, below: u32) -> Built
     requires high { highs.height (plain_expr tree) ≡ 1 + below }
     requires fits { expr_fits (plain_expr tree) ≡ true }
-    ensures { (e : PlainExpr) → plain_expr tree ≡ e → Builds result e }
+    ensures { Builds result (plain_expr tree) }
 {
     if below < HEIGHT_LIMIT {
         let height = below + 1;

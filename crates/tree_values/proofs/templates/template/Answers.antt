@@ -1,4 +1,4 @@
-use Rattle.std.proofs.Common.{ℕ, ◌+◌, arith, sym, ap, ◌∙◌}
+use Rattle.std.proofs.Common.{ℕ, ◌+◌, arith, sym, subst, ap, ◌∙◌}
 use Rattle.std.specs.Prelude.{map}
 use Rattle.php_syntax.specs.Tokens.{plain_part_of}
 use Rattle.php_syntax.specs.Height.{height, exprs_height}
@@ -7,6 +7,7 @@ use Rattle.php_syntax.proofs.Views.{plain_expr-Join}
 use Rattle.script_grammar.specs.Expressions.{part_tree, part_trees}
 use Rattle.script_grammar.specs.Rules.{expr_fits, exprs_fit}
 use Rattle.php_trees.specs.Values.{exprs_and}
+use Rattle.tree_values.specs.Shown.{Builds}
 use Rattle.tree_values.proofs.NodeLemmas.{join_high, join_fits}
 use Rattle.tree_values.proofs.OptionLemmas.{none_of}
 use Rattle.tree_values.proofs.TemplateLemmas.{parts_end, parts_further, among_fits, part_higher}
@@ -49,4 +50,4 @@ grown-requires c = record {
 pub returns : goal.returns
 returns c =
     let all = c.parts.invariant ∙ ap (λ ps. exprs_and (exprs_of c.parts.row.exprs.items) (part_trees (map plain_part_of ps))) c.in_default.ensures ∙ parts_end (exprs_of c.parts.row.exprs.items) in
-    c.grown.ensures _ (plain_expr-Join c.parts.row.exprs ∙ ap join_expr (sym all))
+    subst (Builds c.grown.result) (plain_expr-Join c.parts.row.exprs ∙ ap join_expr (sym all)) c.grown.ensures
