@@ -1,9 +1,10 @@
 -- Names of parameters.
-use Rattle.std.proofs.Common.{◌≡◌, ℕ, zero, suc, ◌+◌, ◌<◌, Bool, true, false, List, [], ◌∷◌, ◌++◌, append_assoc, refl, ap, ◌∙◌, sym, subst, arith}
-use Rattle.std.specs.Prelude.{◌&&◌, ◌||◌, not, max, map, nat_eq, if◌then◌else◌}
+use Rattle.std.proofs.Common.{◌≡◌, ℕ, zero, suc, ◌+◌, ◌<◌, Bool, true, false, List, [], ◌∷◌, ◌++◌, append_assoc, refl, ap, ◌∙◌, sym, subst, arith, inl, inr}
+use Rattle.std.specs.Prelude.{◌≢◌, ◌==◌, ◌⊎◌, ◌&&◌, ◌||◌, not, max, map, nat_eq, if◌then◌else◌}
 use Rattle.std.specs.List.{list_any}
 use Rattle.std.specs.Cmp.Lexicographic.{pointwise}
 use Rattle.std.proofs.lemmas.Bool.{false≢true}
+use Rattle.std.proofs.lemmas.Bool.Decides.{eqb_tells}
 use Rattle.std.proofs.lemmas.List.{map-append}
 use Rattle.indexmap.specs.IndexSet.{insert_key}
 use Rattle.php_syntax.specs.declared.tree.Param.{Param}
@@ -50,10 +51,13 @@ said_new x y ps names b named same added =
 
 -- lists of bytes are the same both ways
 same_nat : (a b : ℕ) → nat_eq a b ≡ nat_eq b a
-same_nat zero zero = refl
-same_nat zero (suc b) = refl
-same_nat (suc a) zero = refl
-same_nat (suc a) (suc b) = same_nat a b
+same_nat a b = go (eqb_tells a b) (eqb_tells b a)
+  where
+    go : ((a == b) ≡ true) × (a ≡ b) ⊎ ((a == b) ≡ false) × (a ≢ b) → ((b == a) ≡ true) × (b ≡ a) ⊎ ((b == a) ≡ false) × (b ≢ a) → nat_eq a b ≡ nat_eq b a
+    go (inl p) (inl q) = p.0 ∙ sym q.0
+    go (inl p) (inr q) = absurd (q.1 (sym p.1))
+    go (inr p) (inl q) = absurd (p.1 (sym q.1))
+    go (inr p) (inr q) = p.0 ∙ sym q.0
 
 same_both : (a b : List ℕ) → same_bytes a b ≡ same_bytes b a
 same_both [] [] = refl
@@ -95,14 +99,14 @@ and_false false b e h = refl_of h
 -- and where it is not new
 pub with_old : (ps : List PlainParam) (q : PlainParam) (rest : List PlainParam) → is_new_name q.name_of ps ≡ false → params_fit (ps ++ q ∷ rest) ≡ false
 with_old [] q rest e = absurd (false≢true (sym e))
-with_old (p ∷ ps) q rest e = by_test (same_bytes q.name_of p.name_of) refl
+with_old (p ∷ ps) q rest e = by_test (same_bytes q.name_of p.name_of) refl (λ h. with_old ps q rest h)
   where
-    by_test : (t : Bool) → same_bytes q.name_of p.name_of ≡ t → params_fit (p ∷ (ps ++ q ∷ rest)) ≡ false
-    by_test true is = not_shut (is_new_name p.name_of (ps ++ q ∷ rest)) (is_writable p.name_of) (params_fit (ps ++ q ∷ rest)) (new_append p.name_of ps (q ∷ rest) ∙ shut (is_new_name p.name_of ps) (ap not (same_both p.name_of q.name_of ∙ is)))
+    by_test : (t : Bool) → same_bytes q.name_of p.name_of ≡ t → (is_new_name q.name_of ps ≡ false → params_fit (ps ++ q ∷ rest) ≡ false) → params_fit (p ∷ (ps ++ q ∷ rest)) ≡ false
+    by_test true is further = not_shut (is_new_name p.name_of (ps ++ q ∷ rest)) (is_writable p.name_of) (params_fit (ps ++ q ∷ rest)) (new_append p.name_of ps (q ∷ rest) ∙ shut (is_new_name p.name_of ps) (ap not (same_both p.name_of q.name_of ∙ is)))
       where
         shut : (a : Bool) → not (same_bytes p.name_of q.name_of) ≡ false → (a && (not (same_bytes p.name_of q.name_of) && is_new_name p.name_of rest)) ≡ false
         shut a e = not_shut (not (same_bytes p.name_of q.name_of)) a (is_new_name p.name_of rest) e
-    by_test false is = last_shut (is_writable p.name_of) (is_new_name p.name_of (ps ++ q ∷ rest)) (params_fit (ps ++ q ∷ rest)) (with_old ps q rest (and_false (not (same_bytes q.name_of p.name_of)) (is_new_name q.name_of ps) e (ap not is)))
+    by_test false is further = last_shut (is_writable p.name_of) (is_new_name p.name_of (ps ++ q ∷ rest)) (params_fit (ps ++ q ∷ rest)) (further (and_false (not (same_bytes q.name_of p.name_of)) (is_new_name q.name_of ps) e (ap not is)))
 
 -- parameters that are put behind others one by one, and what is left of them
 pub record Growing (all params : List Param) (names : List (List ℕ)) (left : List Param) : Type 0 where

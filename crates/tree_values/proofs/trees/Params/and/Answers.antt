@@ -2,7 +2,7 @@ use Rattle.std.proofs.Common.{rules, arith, ◌≡◌, [], true, false, sym}
 use Rattle.std.specs.Vec.Iter.{into_iter_items}
 use Rattle.tree_values.proofs.NameLemmas.{begins, further, taken, are_all, all_high}
 use Rattle.tree_values.proofs.OptionLemmas.{no_items}
-use Rattle.tree_values.proofs.params.Params.and.Goals as goal
+use Rattle.tree_values.proofs.trees.Params.and.Goals as goal
 
 pub more-init : goal.more-init
 more-init c = begins c.args.self.params.items c.args.others.params.items c.args.self.names.keys _ c.into_iter-param-iterator.ensures.into_iter_gives.0 c.args.self.named c.args.self.fits c.args.others.fits
