@@ -1,7 +1,7 @@
 use Rattle.std.proofs.Common.{refl, Some, None}
 use Rattle.tree_builder.specs.Gathered.{plain_form}
 use Rattle.tree_builder.proofs.JudgeLemmas.{part_is}
-use Rattle.tree_builder.proofs.parts.Summary.part.Goals as goal
+use Rattle.tree_builder.proofs.gathered.Summary.part.Goals as goal
 
 pub returns : goal.returns
 returns c = λ ps summary broken none low.
