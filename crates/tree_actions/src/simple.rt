@@ -49,8 +49,8 @@ pub(crate) fn statement<'a>(
 pub(crate) fn inline<'a>(alloc: Global, text: &Bytes) -> Result<Made<'a>, NoMemory>
     ensures { IfOk result (λ made. Makes made (Some (one_stmt (inline_stmt text.now)))) }
 {
-    let stmt = Stmt::Inline(text.copy(alloc)?);
-    statement(alloc, stmt, 0, false, false)
+    let copied = text.copy(alloc)?;
+    statement(alloc, Stmt::Inline(copied), 0, false, false)
 }
 
 /// An `echo`.
@@ -76,8 +76,8 @@ pub(crate) fn run<'a>(alloc: Global, operand: Operand) -> Result<Made<'a>, NoMem
 pub(crate) fn include<'a>(alloc: Global, included: Included) -> Result<Made<'a>, NoMemory>
     ensures { IfOk result (λ made. Makes made (Some (one_stmt (include_stmt included.entry.path.now)))) }
 {
-    let stmt = Stmt::Include(included.path.copy(alloc)?);
-    statement(alloc, stmt, 0, false, false)
+    let copied = included.path.copy(alloc)?;
+    statement(alloc, Stmt::Include(copied), 0, false, false)
 }
 
 /// The end of a run.
