@@ -105,17 +105,20 @@ impl<'a> Builder<'a> {
 }
 
 // What the whole of a script is.
-fn outcome(alloc: Global, whole: Part) -> Result<Outcome, NoMemory>
+#[tactic(auto, using(crate::proofs::BuildLemmas::file_is))]
+fn outcome(whole: Part) -> Result<Outcome, NoMemory>
     ensures { IfOk result (IsWhole (plain_part whole.entry)) }
 {
-    match whole.value {
-        Some(Value::File(file)) => Ok(Outcome::File(file.tree)),
-        Some(_) => Err(NoMemory),
-        None => match whole.left_out {
-            Some(found) => Ok(Outcome::LeftOut(found)),
-            None => Err(NoMemory),
-        },
-    }
+    let Some(value) = whole.value else {
+        let Some(found) = whole.left_out else {
+            return Err(NoMemory);
+        };
+        return Ok(Outcome::LeftOut(found));
+    };
+    let Some(file) = value.file() else {
+        return Err(NoMemory);
+    };
+    Ok(Outcome::File(file.tree))
 }
 
 /// What the only derivation of a script's tokens is read as.
@@ -136,7 +139,7 @@ pub fn build(alloc: Global, events: &[Event], tokens: &[Token]) -> Result<Outcom
         }
     }
     match builder.stack.pop() {
-        Some(whole) => outcome(alloc, whole),
+        Some(whole) => outcome(whole),
         None => Err(NoMemory),
     }
 }
