@@ -1,5 +1,5 @@
 -- What a name and a default are as a parameter.
-use Rattle.std.specs.Prelude.{◌≡◌, ◌<◌, ◌+◌, ℕ, false, List, [], ◌∷◌}
+use Rattle.std.specs.Prelude.{◌≡◌, ◌<◌, ◌+◌, ℕ, true, false, List, [], ◌∷◌}
 use Rattle.text_base.specs.declared.limits.TheConstants.{HEIGHT_LIMIT}
 use Rattle.php_syntax.specs.Trees.{MaybeExpr, params_of_list}
 use Rattle.php_syntax.specs.Height.{maybe_height}
