@@ -1,13 +1,26 @@
 -- The expressions of arguments, one after another.
-use Rattle.std.proofs.Common.{◌≡◌, List, [], ◌∷◌, map, refl, sym, ap, ◌∙◌, Option, Some, None}
+use Rattle.std.proofs.Common.{◌≡◌, false, List, [], ◌∷◌, map, refl, sym, ap, ◌∙◌, Option, Some, None}
 use Rattle.std.specs.Option.{option_map}
 use Rattle.php_syntax.specs.Trees.{PlainExpr, PlainExprs, no_exprs, more_exprs}
 use Rattle.php_trees.specs.Values as plain
 use Rattle.php_trees.specs.Values.{exprs_and}
 use Rattle.php_trees.specs.Actions.{given_exprs}
 use Rattle.tree_values.specs.declared.value.Argument.{Argument}
-use Rattle.tree_values.specs.Shown.{plain_argument}
+use Rattle.tree_values.specs.declared.value.Spelling.{Spelling}
+use Rattle.tree_values.specs.declared.value.Spelling.TheVariants as spelling
+use Rattle.tree_values.specs.Outsides.{is_charset}
+use Rattle.tree_values.specs.Shown.{plain_spelling, plain_argument}
 use Rattle.tree_values.proofs.TemplateLemmas.{parts_end, parts_further}
+
+-- what is given in memory with its spelling is no text
+pub no_charset : (s : Spelling) (e : PlainExpr) → is_charset (plain.given (plain_spelling s) e) ≡ false
+no_charset spelling.Digits e = refl
+no_charset spelling.Literal e = refl
+no_charset spelling.Bracketed e = refl
+no_charset spelling.Chain e = refl
+no_charset spelling.Choice e = refl
+no_charset spelling.Loose e = refl
+no_charset spelling.Usual e = refl
 
 -- expressions and those that are left
 pub further_of : PlainExprs → List Argument → Option PlainExprs

@@ -1,5 +1,5 @@
 -- Keys of a variable, one more behind those before.
-use Rattle.std.proofs.Common.{◌≡◌, ℕ, ◌+◌, Bool, true, false, List, [], ◌∷◌, ◌++◌, refl, ap, ◌∙◌, sym, arith}
+use Rattle.std.proofs.Common.{◌≡◌, ℕ, ◌+◌, ◌<◌, Bool, true, false, List, [], ◌∷◌, ◌++◌, length, refl, ap, ◌∙◌, sym, arith}
 use Rattle.std.specs.Prelude.{Option, Some, None, max, ◌&&◌, is_some}
 use Rattle.php_syntax.specs.declared.tree.Expr.{Expr}
 use Rattle.php_syntax.specs.declared.tree.SuperName.{SuperName}
@@ -8,7 +8,7 @@ use Rattle.php_syntax.specs.Height.{height, maybe_height, path_height}
 use Rattle.script_grammar.specs.Expressions.{variable_tree, request_or}
 use Rattle.script_grammar.specs.Rules.{expr_fits, maybe_fits, path_fits, all_keyed, keyed_before_last, is_known, request_named}
 use Rattle.script_rules.specs.Parts.{read_height}
-use Rattle.php_trees.specs.Values.{path_and, member_read}
+use Rattle.php_trees.specs.Values.{place, path_and, member_read, variable_of}
 use Rattle.tree_values.proofs.NodeLemmas.{both, first_of, second_of}
 
 -- a path with one more key
@@ -89,6 +89,16 @@ some_is e = cc
 
 none_some : {A : Type 0} {x : A} {P : Type 0} → None ≡ Some x → P
 none_some e = cc
+
+-- a variable without keys
+
+pub no_bare : (x : List ℕ) (ks : List (Option Expr)) → 0 < length ks → variable_of (place x (path_of ks)) ≡ None
+no_bare x [] h = absurd (omega (arith, h))
+no_bare x (k ∷ ks) h = refl
+
+pub is_bare : (x : List ℕ) (ks : List (Option Expr)) → length ks ≡ 0 → variable_of (place x (path_of ks)) ≡ Some x
+is_bare x [] h = refl
+is_bare x (k ∷ ks) h = absurd (omega (arith, h))
 
 -- by the first key of those that are left
 pub key_missing : (e : PlainExpr) (left rest : List (Option Expr)) (k : Option Expr) → left ≡ k ∷ rest → k ≡ None → member_read e (path_of left) ≡ None

@@ -1,5 +1,5 @@
 -- Expressions and items in a row, more behind those before.
-use Rattle.std.proofs.Common.{◌≡◌, ℕ, ◌+◌, Bool, true, List, [], ◌∷◌, ◌++◌, refl, ap, ◌∙◌, sym, arith}
+use Rattle.std.proofs.Common.{◌≡◌, ℕ, ◌+◌, ◌<◌, Bool, true, List, [], ◌∷◌, ◌++◌, length, refl, ap, ◌∙◌, sym, arith}
 use Rattle.std.specs.Prelude.{Option, Some, None, max, ◌&&◌}
 use Rattle.php_syntax.specs.declared.tree.Expr.{Expr}
 use Rattle.php_syntax.specs.Trees.{PlainExpr, plain_expr, MaybeExpr, no_expr, some_expr, PlainExprs, no_exprs, more_exprs, PlainItems, no_items, more_items, maybe_of, exprs_of, items_of}
@@ -51,6 +51,12 @@ pub exprs_push_fit : (es : PlainExprs) (e : PlainExpr) → exprs_fit es ≡ true
 unfolding expr_fits
 exprs_push_fit no_exprs e h i = both i refl
 exprs_push_fit (more_exprs f es) e h i = both (first_of _ _ h) (exprs_push_fit es e (second_of _ _ h) i)
+
+-- more than one expression are no condition
+pub many : (es : List Expr) → 1 < length es → condition_of (exprs (exprs_of es)) ≡ None
+many [] h = absurd (omega (arith, h))
+many (e ∷ []) h = absurd (omega (arith, h))
+many (e ∷ f ∷ es) h = refl
 
 pub one_item_high : (k : MaybeExpr) (e : PlainExpr) → items_height (more_items k e no_items) ≡ max (maybe_height k) (height e)
 unfolding height

@@ -28,6 +28,9 @@ pub stmts_append : (ss ts : List Stmt) → stmts_of (ss ++ ts) ≡ stmts_and (st
 stmts_append [] ts = refl
 stmts_append (s ∷ ss) ts = ap (more_stmts (plain_stmt s)) (stmts_append ss ts)
 
+pub one_pushed : (old new : List Stmt) (s : Stmt) (p : PlainStmt) → old ≡ [] → new ≡ old ++ s ∷ [] → plain_stmt s ≡ p → stmts_of new ≡ more_stmts p no_stmts
+one_pushed old new s p none is same = ap stmts_of (is ∙ ap (λ (ss : List Stmt). ss ++ s ∷ []) none) ∙ ap (λ (q : PlainStmt). more_stmts q no_stmts) same
+
 pub no_stmts_high : stmts_height no_stmts ≡ 0
 unfolding stmt_height
 no_stmts_high = refl

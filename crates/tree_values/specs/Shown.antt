@@ -26,7 +26,6 @@ use Rattle.tree_values.specs.declared.value.Built.TheVariants as built
 -- how an expression is spelled
 abbrev pub plain_spelling : Spelling → plain.Spelling
 plain_spelling spelling.Digits = plain.digits
-plain_spelling spelling.Quoted = plain.quoted
 plain_spelling spelling.Literal = plain.literal
 plain_spelling spelling.Bracketed = plain.bracketed
 plain_spelling spelling.Chain = plain.chain

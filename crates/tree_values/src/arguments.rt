@@ -25,6 +25,7 @@ impl<'a> Argument<'a> {
     }
 
     // Whether this is the name of UTF-8.
+    #[tactic(auto, using(crate::proofs::ArgumentLemmas::no_charset))]
     fn is_charset(&self) -> bool
         ensures { result ≡ is_charset (plain_argument self.now) }
     {

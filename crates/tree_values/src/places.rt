@@ -105,10 +105,9 @@ impl<'a> Place<'a> {
             (plain.variable_of (plain.place self.entry.name.now (path_of self.entry.keys.items)) ≡ None)
             (λ x. plain.variable_of (plain.place self.entry.name.now (path_of self.entry.keys.items)) ≡ Some x.now) }
     {
-        if self.keys.is_empty() {
-            Some(self.name)
-        } else {
-            None
+        if self.keys.len() > 0 {
+            return None;
         }
+        Some(self.name)
     }
 }

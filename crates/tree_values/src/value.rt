@@ -16,8 +16,6 @@ use text_base::Bytes;
 pub enum Spelling {
     /// An integer.
     Digits,
-    /// A text.
-    Quoted,
     /// What else may be a default of a parameter.
     Literal,
     /// A text in brackets.

@@ -10,7 +10,7 @@ use Rattle.tree_values.proofs.arguments.given.Goals as goal
 pub arguments-init : goal.arguments-init
 arguments-init c =
     ap (λ gs. given_exprs (map plain_argument gs)) (sym c.into_iter-argument-iterator.ensures.into_iter_gives.0)
-    ∙ none_first _ (exprs_of c.empty.result.exprs.items) c.empty.ensures
+    ∙ none_first _ (exprs_of c.empty-row.result.exprs.items) c.empty-row.ensures
 
 pub returns-in_default : goal.returns-in_default
 returns-in_default c =
@@ -21,7 +21,7 @@ returns-in_default c =
 pub arguments-preserved : goal.arguments-preserved
 arguments-preserved c =
     let one = rw c.in-Some-found.is at c.in_ok-found.ensures in
-    c.arguments.invariant ∙ one_given _ _ _ _ c.in-Some.argument one.0 _ c.in-Some.ensures.steps.0 one.1 c.in_ok-with.ensures
+    c.arguments.invariant ∙ one_given _ _ _ _ c.in-Some.argument one.0 _ c.in-Some.ensures.steps.0 one.1 c.in_ok-row.ensures
 
 pub returns : goal.returns
 returns c =

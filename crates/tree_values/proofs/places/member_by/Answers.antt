@@ -13,7 +13,7 @@ pub returns-in_default : goal.returns-in_default
 returns-in_default c = c.keys.invariant ∙ key_missing (plain_expr c.keys.tree) _ _ c.in-Some.key c.in-Some.ensures.steps.0 (none_of c.in-Some.key c.in_default.not-Some)
 
 pub keys-preserved : goal.keys-preserved
-keys-preserved c = c.keys.invariant ∙ key_taken (plain_expr c.keys.tree) _ _ _ c.in-Some.key c.in-Some-key.found c.in-Some.ensures.steps.0 c.in-Some-key.is c.in_ok-member_tree.ensures
+keys-preserved c = c.keys.invariant ∙ key_taken (plain_expr c.keys.tree) _ _ _ c.in-Some.key c.in-Some-key.found c.in-Some.ensures.steps.0 c.in-Some-key.is c.in_ok-tree.ensures
 
 pub returns : goal.returns
 returns c =

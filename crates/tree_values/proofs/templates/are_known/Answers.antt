@@ -7,12 +7,12 @@ use Rattle.tree_values.proofs.templates.are_known.Goals as goal
 pub returns-then-not-is : goal.returns-then-not-is
 returns-then-not-is c =
     c.parts.invariant
-    ∙ first_shut (plain_part_of c.in-Some.part.now) (map plain_part_of c.in-Some.behind.now) (map plain_part_of c.parts.left) (ap (map plain_part_of) c.in-Some.ensures) (c.is_part_known-is.ensures ∙ c.if-not-is.true)
+    ∙ first_shut (plain_part_of c.in-Some.part.now) (map plain_part_of c.in-Some.behind.now) (map plain_part_of c.parts.left.now) (ap (map plain_part_of) c.in-Some.ensures) (c.is_part_known-is.ensures ∙ c.if-not-is.true)
 
 pub parts-preserved : goal.parts-preserved
 parts-preserved c =
     c.parts.invariant
-    ∙ first_open (plain_part_of c.in-Some.part.now) (map plain_part_of c.in-Some.behind.now) (map plain_part_of c.parts.left) (ap (map plain_part_of) c.in-Some.ensures) (c.is_part_known-is.ensures ∙ c.if-not-is.false)
+    ∙ first_open (plain_part_of c.in-Some.part.now) (map plain_part_of c.in-Some.behind.now) (map plain_part_of c.parts.left.now) (ap (map plain_part_of) c.in-Some.ensures) (c.is_part_known-is.ensures ∙ c.if-not-is.false)
 
 pub returns : goal.returns
-returns c = c.parts.invariant ∙ no_parts (map plain_part_of c.parts.left) (ap (map plain_part_of) c.in_default.ensures)
+returns c = c.parts.invariant ∙ no_parts (map plain_part_of c.parts.left.now) (ap (map plain_part_of) c.in_default.ensures)

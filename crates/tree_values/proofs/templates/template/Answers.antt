@@ -14,6 +14,7 @@ use Rattle.tree_values.proofs.TemplateLemmas.{parts_end, parts_further, among_fi
 use Rattle.tree_values.proofs.templates.template.Goals as goal
 
 pub returns-then-not-are_known : goal.returns-then-not-are_known
+unfolding expr_fits exprs_fit
 returns-then-not-are_known c = c.are_known.ensures ∙ c.if-not-are_known.true
 
 pub part_operand-requires : goal.part_operand-requires
@@ -22,10 +23,10 @@ part_operand-requires c =
     among_fits (exprs_of c.parts.row.exprs.items) (part_tree (plain_part_of c.in-Some.part.now)) (part_trees (map plain_part_of c.in-Some.behind.now))
     (ap exprs_fit (sym here) ∙ c.are_known.ensures ∙ c.if-not-are_known.false)
 
-pub returns-in_default : goal.returns-in_default
-returns-in_default c =
+pub returns-in_default-found : goal.returns-in_default-found
+returns-in_default-found c =
     let here = c.parts.invariant ∙ ap (λ ps. exprs_and (exprs_of c.parts.row.exprs.items) (part_trees (map plain_part_of ps))) c.in-Some.ensures in
-    let is = none_of c.in_ok-found.found c.in_default.not-Some in
+    let is = none_of c.in_ok-found.found c.in_default-found.not-Some in
     let high = rw is at c.in_ok-found.ensures in
     let inner = part_higher (exprs_of c.parts.row.exprs.items) (part_tree (plain_part_of c.in-Some.part.now)) (part_trees (map plain_part_of c.in-Some.behind.now)) in (
       join_fits _ (c.are_known.ensures ∙ c.if-not-are_known.false),

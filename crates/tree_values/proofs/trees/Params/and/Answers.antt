@@ -24,9 +24,9 @@ invariant_of-made c =
     let high = all_high c.args.self.params.items c.args.others.params.items c.more.params.items _ c.more.names.keys c.more.invariant none in
     record {
       named = c.more.invariant.named;
-      high = omega (arith, high, c.args.self.high, c.args.others.high, c.max.ensures);
+      high = omega (arith, high, c.args.self.high, c.args.others.high, c.max-height.ensures);
       fits = c.more.invariant.fits;
-      within = omega (arith, c.args.self.within, c.args.others.within, c.max.ensures);
+      within = omega (arith, c.args.self.within, c.args.others.within, c.max-height.ensures);
     }
 
 pub returns : goal.returns
