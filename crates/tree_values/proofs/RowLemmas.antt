@@ -1,12 +1,13 @@
 -- Expressions and items in a row, more behind those before.
-use Rattle.std.proofs.Common.{◌≡◌, ℕ, ◌+◌, ◌<◌, Bool, true, List, [], ◌∷◌, ◌++◌, length, refl, ap, ◌∙◌, sym, arith}
-use Rattle.std.specs.Prelude.{Option, Some, None, max, ◌&&◌}
+use Rattle.std.proofs.Common.{◌≡◌, ℕ, ◌+◌, ◌<◌, ◌≤◌, Bool, true, List, [], ◌∷◌, ◌++◌, length, refl, ap, ◌∙◌, sym, arith}
+use Rattle.std.specs.Prelude.{Option, Some, None, MatchOption, option_to_list, max, ◌&&◌}
 use Rattle.php_syntax.specs.declared.tree.Expr.{Expr}
 use Rattle.php_syntax.specs.Trees.{PlainExpr, plain_expr, MaybeExpr, no_expr, some_expr, PlainExprs, no_exprs, more_exprs, PlainItems, no_items, more_items, maybe_of, exprs_of, items_of}
 use Rattle.php_syntax.specs.Height.{height, maybe_height, exprs_height, items_height}
 use Rattle.script_grammar.specs.Rules.{expr_fits, maybe_fits, exprs_fit, items_fit}
 use Rattle.php_trees.specs.Values.{exprs_and, items_and, exprs, condition_of}
 use Rattle.tree_values.proofs.NodeLemmas.{both, first_of, second_of}
+use Rattle.tree_values.proofs.OptionLemmas.{no_items}
 
 -- a row with one more expression
 abbrev pub and_expr : PlainExprs → PlainExpr → PlainExprs
@@ -57,6 +58,29 @@ pub many : (es : List Expr) → 1 < length es → condition_of (exprs (exprs_of 
 many [] h = absurd (omega (arith, h))
 many (e ∷ []) h = absurd (omega (arith, h))
 many (e ∷ f ∷ es) h = refl
+
+-- one expression or none, as what is taken off the end
+abbrev pub row_of : Option Expr → PlainExprs
+row_of None = no_exprs
+row_of (Some e) = more_exprs (plain_expr e) no_exprs
+
+pub only_of : (es front : List Expr) (o : Option Expr) → es ≡ front ++ option_to_list o → MatchOption o ((length es ≡ 0) × (length front ≡ 0)) (λ _. length front + 1 ≡ length es) → length es ≤ 1 → exprs_of es ≡ row_of o
+only_of es front None items cases few = ap exprs_of (no_items es cases.0)
+only_of es front (Some e) items cases few = ap exprs_of (items ∙ ap (λ (fs : List Expr). fs ++ e ∷ []) (no_items front (omega (arith, cases, few))))
+
+pub row_condition : (o : Option Expr) → condition_of (exprs (row_of o)) ≡ Some (maybe_of o)
+row_condition None = refl
+row_condition (Some e) = refl
+
+pub row_high : (o : Option Expr) → exprs_height (row_of o) ≡ maybe_height (maybe_of o)
+unfolding height
+row_high None = refl
+row_high (Some e) = max_none (height (plain_expr e))
+
+pub row_fits : (o : Option Expr) → exprs_fit (row_of o) ≡ true → maybe_fits (maybe_of o) ≡ true
+unfolding expr_fits
+row_fits None h = refl
+row_fits (Some e) h = first_of _ _ h
 
 pub one_item_high : (k : MaybeExpr) (e : PlainExpr) → items_height (more_items k e no_items) ≡ max (maybe_height k) (height e)
 unfolding height
