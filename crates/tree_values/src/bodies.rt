@@ -8,7 +8,7 @@ ghost use Rattle.php_trees.specs.Values.{stmts_and};
 
 use crate::flags::either;
 use crate::trees::{Arms, Body, Branch, Operand};
-use php_syntax::tree::Stmt;
+use php_syntax::tree::{Expr, Stmt};
 use std::alloc::Global;
 use text_base::NoMemory;
 use text_base::limits::HEIGHT_LIMIT;
@@ -48,6 +48,15 @@ impl Body {
     }
 }
 
+// The arms from behind.
+fn reversed(arms: Vec<(Expr, Vec<Stmt>)>) -> Vec<(Expr, Vec<Stmt>)>
+    ensures { result.items ≡ reverse arms.items }
+{
+    let mut turned = arms;
+    turned.reverse();
+    turned
+}
+
 impl Branch {
     /// The `if` of these arms.
     #[tactic(auto, using(php_syntax::proofs::Views::views, crate::proofs::StmtLemmas::branching))]
@@ -58,8 +67,7 @@ impl Branch {
         let height = self.arms.height.max(self.others.height) + 1;
         let needs_loop = either(self.arms.needs_loop, self.others.needs_loop);
         let needs_function = either(self.arms.needs_function, self.others.needs_function);
-        let mut arms = self.arms.arms;
-        arms.as_mut_slice().reverse();
+        let arms = reversed(self.arms.arms);
         let mut stmts = Vec::new(alloc);
         stmts.push(Stmt::If(arms, self.others.stmts))?;
         Ok(Body {

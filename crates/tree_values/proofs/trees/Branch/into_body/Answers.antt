@@ -1,4 +1,4 @@
-use Rattle.std.proofs.Common.{rules, arith, ◌≡◌, Bool, ap, sym, ◌∙◌}
+use Rattle.std.proofs.Common.{arith, Bool, ap, sym, ◌∙◌}
 use Rattle.std.specs.Prelude.{reverse, ◌&&◌, ◌||◌}
 use Rattle.php_syntax.specs.declared.tree.Stmt.{If}
 use Rattle.php_syntax.specs.Height.{stmts_height}
@@ -13,10 +13,10 @@ pub invariant_of-result : goal.invariant_of-result
 invariant_of-result c =
     let arms = c.args.self.arms in
     let o = c.args.self.others in
-    let turned : c.as_mut_slice.new.self.items ≡ reverse arms.arms.items = search rules in
+    let turned = c.reversed-arms.ensures in
     let plain = if_stmt (arms_of (reverse arms.arms.items)) (stmts_of o.stmts.items) in
-    let all = one_pushed c.new-stmts.result.items c.push.new.self.items (If c.as_mut_slice.new.self o.stmts) plain c.new-stmts.ensures.items c.in_ok-push.ensures.items
-    (plain_stmt-If c.as_mut_slice.new.self o.stmts ∙ ap (λ xs. if_stmt (arms_of xs) (stmts_of o.stmts.items)) turned) in
+    let all = one_pushed c.new-stmts.result.items c.push.new.self.items (If c.reversed-arms.result o.stmts) plain c.new-stmts.ensures.items c.in_ok-push.ensures.items
+    (plain_stmt-If c.reversed-arms.result o.stmts ∙ ap (λ xs. if_stmt (arms_of xs) (stmts_of o.stmts.items)) turned) in
     record {
       high = omega (arith, ap stmts_height all, one_stmt_high plain, if_high (arms_of (reverse arms.arms.items)) (stmts_of o.stmts.items), arms.high, o.high, c.max-height.ensures);
       fits = λ l f.
@@ -32,6 +32,6 @@ pub returns : goal.returns
 returns c =
     let arms = c.args.self.arms in
     let o = c.args.self.others in
-    let turned : c.as_mut_slice.new.self.items ≡ reverse arms.arms.items = search rules in
-    one_pushed c.new-stmts.result.items c.push.new.self.items (If c.as_mut_slice.new.self o.stmts) _ c.new-stmts.ensures.items c.in_ok-push.ensures.items
-    (plain_stmt-If c.as_mut_slice.new.self o.stmts ∙ ap (λ xs. if_stmt (arms_of xs) (stmts_of o.stmts.items)) turned)
+    let turned = c.reversed-arms.ensures in
+    one_pushed c.new-stmts.result.items c.push.new.self.items (If c.reversed-arms.result o.stmts) _ c.new-stmts.ensures.items c.in_ok-push.ensures.items
+    (plain_stmt-If c.reversed-arms.result o.stmts ∙ ap (λ xs. if_stmt (arms_of xs) (stmts_of o.stmts.items)) turned)
