@@ -3,3 +3,4 @@ pub mod Same
 pub mod Pages
 pub mod Forms
 pub mod Runs
+pub mod Starting

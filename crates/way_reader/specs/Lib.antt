@@ -3,3 +3,5 @@ pub mod Ways
 pub mod Laws
 pub mod Reader
 pub mod Classes
+pub mod Starts
+pub mod PageWays

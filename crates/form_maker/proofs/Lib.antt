@@ -1,0 +1,3 @@
+pub mod Holding
+pub mod Members
+pub mod FixedValues
