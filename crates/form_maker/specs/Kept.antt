@@ -1,5 +1,5 @@
 -- The expressions that are kept, in their order.
-use Rattle.std.specs.Prelude.{ℕ, List, [], ◌∷◌, ◌++◌, codes}
+use Rattle.std.specs.Prelude.{◌≡◌, ℕ, List, [], ◌∷◌, ◌++◌, codes}
 use Rattle.dtd_model.specs.Table.{Declared, Rule, Table, Kind, cdata, id, idrefs, nmtoken, nmtokens}
 use Rattle.dtd_model.specs.declared.dtd.DoctypeRule.{DoctypeRule}
 use Rattle.derivatives.specs.Expressions.{Expr, range}
@@ -52,6 +52,10 @@ unfoldable pub shared : List (List ℕ) → List Expr
 shared entities =
     reference_form entities ∷ value_behind entities cdata ∷ value_behind entities id ∷ value_behind entities idrefs ∷ value_behind entities nmtoken
     ∷ value_behind entities nmtokens ∷ []
+
+-- they were kept first
+abbrev pub HasShared : List (List ℕ) → Making → Type 0
+HasShared entities m = (more : List Expr) × (m.kept ≡ shared entities ++ more)
 
 -- text, by where it stands
 abbrev pub text_forms : List Expr

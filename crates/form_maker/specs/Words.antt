@@ -54,6 +54,10 @@ abbrev pub word_test : WordTest → List ℕ → Bool
 word_test Name = is_name
 word_test Token = is_name_token
 
+-- the word, where it passes, or the last expression
+abbrev pub word_if : Bool → List ℕ → Expr → Expr
+word_if passes w e = if passes then either_of (word w) e else e
+
 -- one of the words that pass a test
 abbrev pub words_before : (List ℕ → Bool) → List (List ℕ) → Expr → Expr
 words_before test [] e = e

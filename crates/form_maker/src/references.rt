@@ -6,7 +6,7 @@ ghost use Rattle.xml_text.specs.Names as names;
 ghost use Rattle.page_forms.specs.References as spec;
 ghost use Rattle.page_forms.specs.Words.{one_of_words};
 ghost use Rattle.form_maker.specs.Making.{Changes, making_of, pushed};
-ghost use Rattle.form_maker.specs.Words.{word_test, words_before};
+ghost use Rattle.form_maker.specs.Words.{word_if, word_test, words_before};
 ghost use Rattle.dtd_model.specs.References.{known_entities};
 
 use crate::maker::Maker;
@@ -52,6 +52,17 @@ impl WordTest {
 }
 
 impl Maker {
+    /// The word, where it passes, or the last expression.
+    fn word_if(&mut self, passes: bool, word: &[u8]) -> Result<(), NoMemory>
+        ensures { OnOk result
+            (Changes (word_if passes word.now) (making_of self.old) (making_of self.new)) }
+    {
+        if passes {
+            self.word_or(word)?;
+        }
+        Ok(())
+    }
+
     /// One of the words that pass a test, or the last expression.
     fn words_before(&mut self, test: WordTest, words: &[Bytes]) -> Result<(), NoMemory>
         ensures { OnOk result
@@ -60,9 +71,7 @@ impl Maker {
     {
         let mut left = words;
         while let Some((last, others)) = left.split_last() {
-            if test.passes(last.as_slice()) {
-                self.word_or(last.as_slice())?;
-            }
+            self.word_if(test.passes(last.as_slice()), last.as_slice())?;
             left = others;
         }
         Ok(())
@@ -94,14 +103,16 @@ impl Maker {
         Ok(())
     }
 
-    /// The name of one of these entities, or of one that needs no declaration.
+    /// The name of one of these entities, or of one that needs no declaration. Alternatives are
+    /// made from the last one on, so that each is new where it is put before the others: then it is
+    /// told at once that it is none of them.
     pub fn entity(&mut self, entities: &[Bytes]) -> Result<(), NoMemory>
         ensures { OnOk result
             (making_of self.new ≡ pushed (spec.entity_form entities.now) (making_of self.old)) }
     {
-        self.known_entities()?;
         self.one_of(WordTest::Name, entities)?;
-        self.either()?;
+        self.known_entities()?;
+        self.either_before()?;
         Ok(())
     }
 
@@ -112,6 +123,7 @@ impl Maker {
             (making_of self.new ≡ pushed (spec.reference_form entities.now) (making_of self.old)) }
     {
         self.word(b"&")?;
+        self.entity(entities)?;
         self.word(b"#")?;
         self.decimal()?;
         self.word(b"x")?;
@@ -119,8 +131,7 @@ impl Maker {
         self.chain()?;
         self.either()?;
         self.chain()?;
-        self.entity(entities)?;
-        self.either()?;
+        self.either_before()?;
         self.word(b";")?;
         self.chain()?;
         self.chain()?;

@@ -1,13 +1,12 @@
 //! Tags by what is declared (XML 1.0, 3.1 and 3.3).
 
-ghost use Rattle.std.specs.Prelude.{◌≡◌, ◌++◌, [], ◌∷◌, ℕ, List, map, OnOk};
-ghost use Rattle.derivatives.specs.Expressions.{Expr};
+ghost use Rattle.std.specs.Prelude.{◌≡◌, [], map, OnOk};
 ghost use Rattle.dtd_model.specs.Table.{declared_of, presence_of, rule_of};
 ghost use Rattle.dtd_model.specs.TableOf.{table_of};
 ghost use Rattle.page_forms.specs.Simple.{end_tag_form};
 ghost use Rattle.page_forms.specs.Tags as spec;
 ghost use Rattle.page_model.specs.Attributes as attributes;
-ghost use Rattle.form_maker.specs.Kept.{declared_behind, element_forms, keeping, shared, tag_forms};
+ghost use Rattle.form_maker.specs.Kept.{declared_behind, element_forms, keeping, HasShared, tag_forms};
 ghost use Rattle.form_maker.specs.Making.{making_of, pushed};
 
 use crate::maker::Maker;
@@ -37,8 +36,7 @@ fn must_stand(tag: &[u8], rule: &AttrRule) -> bool
 impl Maker {
     /// What stands behind the name of an attribute.
     fn value_behind(&mut self, indexed: &IndexedDtd<'_>, rule: &AttrRule) -> Result<(), NoMemory>
-        ensures { (more : List Expr)
-            → (making_of self.old).kept ≡ shared (table_of indexed.now.dtd.now).entities ++ more
+        ensures { HasShared (table_of indexed.now.dtd.now).entities (making_of self.old)
             → OnOk result (making_of self.new
             ≡ pushed (declared_behind (table_of indexed.now.dtd.now).entities (declared_of rule.now))
             (making_of self.old)) }
@@ -48,28 +46,25 @@ impl Maker {
                 self.fixed(indexed, &rule.kind, wanted.as_slice(), b'"')?;
                 self.fixed(indexed, &rule.kind, wanted.as_slice(), b'\'')?;
                 self.either()?;
-                self.behind_equals()?;
+                self.behind_equals()
             }
-            Need::Implied | Need::Required | Need::Default => self.kind_behind(&rule.kind)?,
+            Need::Implied | Need::Required | Need::Default => self.kind_behind(&rule.kind),
         }
-        Ok(())
     }
 
     /// An attribute.
     fn attribute(&mut self, indexed: &IndexedDtd<'_>, rule: &AttrRule) -> Result<(), NoMemory>
-        ensures { (more : List Expr)
-            → (making_of self.old).kept ≡ shared (table_of indexed.now.dtd.now).entities ++ more
+        ensures { HasShared (table_of indexed.now.dtd.now).entities (making_of self.old)
             → OnOk result (making_of self.new
             ≡ pushed (spec.attribute_form (table_of indexed.now.dtd.now).entities (declared_of rule.now))
             (making_of self.old)) }
     {
         if is_name(rule.name.as_slice()) {
             self.value_behind(indexed, rule)?;
-            self.behind_name(rule.name.as_slice())?;
+            self.behind_name(rule.name.as_slice())
         } else {
-            self.nothing()?;
+            self.nothing()
         }
-        Ok(())
     }
 
     /// The attributes of a tag of this name, in any order.
@@ -79,8 +74,7 @@ impl Maker {
         tag: &[u8],
         rules: &Vec<AttrRule>,
     ) -> Result<(), NoMemory>
-        ensures { (more : List Expr)
-            → (making_of self.old).kept ≡ shared (table_of indexed.now.dtd.now).entities ++ more
+        ensures { HasShared (table_of indexed.now.dtd.now).entities (making_of self.old)
             → OnOk result (making_of self.new
             ≡ pushed (spec.any_order (spec.attribute_members (table_of indexed.now.dtd.now).entities
             tag.now (map declared_of rules.now.items))) (making_of self.old)) }
@@ -102,8 +96,7 @@ impl Maker {
         rule: &ElementRule,
         closer: &[u8],
     ) -> Result<(), NoMemory>
-        ensures { (more : List Expr)
-            → (making_of self.old).kept ≡ shared (table_of indexed.now.dtd.now).entities ++ more
+        ensures { HasShared (table_of indexed.now.dtd.now).entities (making_of self.old)
             → OnOk result (making_of self.new
             ≡ pushed (spec.tag_form closer.now (table_of indexed.now.dtd.now).entities (rule_of rule.now))
             (making_of self.old)) }
@@ -138,8 +131,7 @@ impl Maker {
     /// Keeps the tags of an element: its start tags, its tags of empty elements, its end tags.
     #[tactic(auto, unfolding(page_forms::specs::Tags::start_tag_form, page_forms::specs::Tags::empty_tag_form))]
     fn element(&mut self, indexed: &IndexedDtd<'_>, rule: &ElementRule) -> Result<(), NoMemory>
-        ensures { (more : List Expr)
-            → (making_of self.old).kept ≡ shared (table_of indexed.now.dtd.now).entities ++ more
+        ensures { HasShared (table_of indexed.now.dtd.now).entities (making_of self.old)
             → OnOk result (making_of self.new
             ≡ keeping (element_forms (table_of indexed.now.dtd.now).entities (rule_of rule.now) [])
             (making_of self.old)) }
@@ -155,8 +147,7 @@ impl Maker {
 
     /// Keeps the tags of all elements.
     pub(crate) fn elements(&mut self, indexed: &IndexedDtd<'_>) -> Result<(), NoMemory>
-        ensures { (more : List Expr)
-            → (making_of self.old).kept ≡ shared (table_of indexed.now.dtd.now).entities ++ more
+        ensures { HasShared (table_of indexed.now.dtd.now).entities (making_of self.old)
             → OnOk result (making_of self.new
             ≡ keeping (tag_forms (table_of indexed.now.dtd.now).entities
             (table_of indexed.now.dtd.now).elements) (making_of self.old)) }

@@ -1,12 +1,11 @@
 //! Values of attributes by their types (XML 1.0, 3.3.1).
 
-ghost use Rattle.std.specs.Prelude.{◌≡◌, ◌++◌, ℕ, List, OnOk};
-ghost use Rattle.derivatives.specs.Expressions.{Expr};
+ghost use Rattle.std.specs.Prelude.{◌≡◌, ℕ, List, OnOk};
 ghost use Rattle.dtd_model.specs.Table.{cdata, kind_of};
 ghost use Rattle.page_forms.specs.Tags as spec;
 ghost use Rattle.page_forms.specs.Words.{one_of_words};
 ghost use Rattle.xml_text.specs.Names.{is_name_token};
-ghost use Rattle.form_maker.specs.Kept.{shared, text_in_quotes, value_behind, words_behind};
+ghost use Rattle.form_maker.specs.Kept.{HasShared, text_in_quotes, value_behind, words_behind};
 ghost use Rattle.form_maker.specs.Making.{making_of, pushed};
 ghost use Rattle.form_maker.specs.Words.{name_by};
 
@@ -136,19 +135,17 @@ impl Maker {
 
     /// What stands behind the name of an attribute of this type, by what is kept first.
     pub(crate) fn kind_behind(&mut self, kind: &AttrKind) -> Result<(), NoMemory>
-        ensures { (entities : List (List ℕ)) (more : List Expr)
-            → (making_of self.old).kept ≡ shared entities ++ more → OnOk result
+        ensures { (entities : List (List ℕ)) → HasShared entities (making_of self.old) → OnOk result
             (making_of self.new
             ≡ pushed (value_behind entities (kind_of kind.now)) (making_of self.old)) }
     {
         match kind {
-            AttrKind::Cdata => self.fetch(1)?,
-            AttrKind::Id | AttrKind::Idref => self.fetch(2)?,
-            AttrKind::Idrefs => self.fetch(3)?,
-            AttrKind::Nmtoken => self.fetch(4)?,
-            AttrKind::Nmtokens => self.fetch(5)?,
-            AttrKind::Choice(tokens) => self.choice_behind(tokens.as_slice())?,
+            AttrKind::Cdata => self.fetch(1),
+            AttrKind::Id | AttrKind::Idref => self.fetch(2),
+            AttrKind::Idrefs => self.fetch(3),
+            AttrKind::Nmtoken => self.fetch(4),
+            AttrKind::Nmtokens => self.fetch(5),
+            AttrKind::Choice(tokens) => self.choice_behind(tokens.as_slice()),
         }
-        Ok(())
     }
 }

@@ -1,6 +1,7 @@
 //! Words and classes of bytes.
 
 ghost use Rattle.std.specs.Prelude.{◌≡◌, ◌≤◌, ℕ, None, Some, OnOk};
+ghost use Rattle.byte_forms.specs.Ranges.{ranges_below};
 ghost use Rattle.derivatives.specs.Derivatives.{either_of};
 ghost use Rattle.derivatives.specs.Expressions.{range};
 ghost use Rattle.page_forms.specs.Words as words;
@@ -74,7 +75,7 @@ impl Maker {
     ) -> Result<(), NoMemory>
         requires { (byte : ℕ) → last ≡ Some byte → end ≤ byte }
         ensures { OnOk result
-            (Changes (words.ranges_below (T.passing test.now) end last) (making_of self.old)
+            (Changes (ranges_below (T.passing test.now) end last) (making_of self.old)
             (making_of self.new)) }
     {
         if end == 0 {

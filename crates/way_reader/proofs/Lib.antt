@@ -4,3 +4,4 @@ pub mod Pages
 pub mod Forms
 pub mod Runs
 pub mod Starting
+pub mod Pushing
