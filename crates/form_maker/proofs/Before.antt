@@ -1,5 +1,6 @@
 -- What is put before the last expression, from the right to the left.
 use Rattle.std.proofs.Common.{◌≡◌, ℕ, zero, suc, Bool, true, false, List, [], ◌∷◌, ◌++◌, Option, Some, None, refl, sym, ◌∙◌, ap, subst}
+use Rattle.std.specs.Option.{unwrap_or}
 use Rattle.std.specs.Prelude.{if◌then◌else◌}
 use Rattle.byte_forms.specs.Ranges.{ranges_below}
 use Rattle.derivatives.specs.Expressions.{Expr, empty, nothing, range}
@@ -90,12 +91,7 @@ pub no_byte : (test : ℕ → Bool) (bound : ℕ) (last : Option ℕ) (old new :
 no_byte test bound last old new is h =
     λ e m from. h e m from ∙ ap (λ (x : Expr). pushed x m) (ranges_at_end test last e ∙ ap (λ (n : ℕ). ranges_below test n last e) (sym is))
 
--- the last byte of a range that goes on or begins
-abbrev pub last_or : ℕ → Option ℕ → ℕ
-last_or n None = n
-last_or n (Some last) = last
-
-pub range_goes_on : (test : ℕ → Bool) (n : ℕ) (last : Option ℕ) (e : Expr) → test n ≡ true → ranges_below test (suc n) last e ≡ ranges_below test n (Some (last_or n last)) e
+pub range_goes_on : (test : ℕ → Bool) (n : ℕ) (last : Option ℕ) (e : Expr) → test n ≡ true → ranges_below test (suc n) last e ≡ ranges_below test n (Some (unwrap_or last n)) e
 range_goes_on test n None e h = ap (λ (b : Bool). if b then ranges_below test n (Some n) e else ranges_below test n None e) h
 range_goes_on test n (Some last) e h = ap (λ (b : Bool). if b then ranges_below test n (Some last) e else ranges_below test n None (either_of (range (suc n) last) e)) h
 
@@ -104,7 +100,7 @@ range_ends test n None e h = ap (λ (b : Bool). if b then ranges_below test n (S
 range_ends test n (Some last) e h = ap (λ (b : Bool). if b then ranges_below test n (Some last) e else ranges_below test n None (either_of (range (suc n) last) e)) h
 
 -- the byte passes
-pub byte_in : (test : ℕ → Bool) (bound n : ℕ) (last : Option ℕ) (wide : ℕ) (old new : Making) → bound ≡ suc n → test n ≡ true → wide ≡ last_or n last → Changes (ranges_below test n (Some wide)) old new
+pub byte_in : (test : ℕ → Bool) (bound n : ℕ) (last : Option ℕ) (wide : ℕ) (old new : Making) → bound ≡ suc n → test n ≡ true → wide ≡ unwrap_or last n → Changes (ranges_below test n (Some wide)) old new
     → Changes (ranges_below test bound last) old new
 byte_in test bound n last wide old new is passes w h =
     λ e m from. h e m from

@@ -58,9 +58,10 @@ impl Maker {
             (Changes (word_if passes word.now) (making_of self.old) (making_of self.new)) }
     {
         if passes {
-            self.word_or(word)?;
+            self.word_or(word)
+        } else {
+            Ok(())
         }
-        Ok(())
     }
 
     /// One of the words that pass a test, or the last expression.

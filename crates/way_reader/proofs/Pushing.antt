@@ -1,5 +1,5 @@
 -- The tags of elements are put in their order.
-use Rattle.std.proofs.Common.{◌≡◌, ℕ, zero, suc, ◌+◌, List, [], ◌∷◌, ◌++◌, refl, sym, ◌∙◌, ap, arith, append-nil, append_assoc}
+use Rattle.std.proofs.Common.{◌≡◌, ℕ, zero, suc, ◌+◌, ◌≤◌, List, [], ◌∷◌, ◌++◌, refl, sym, ◌∙◌, ap, arith, append-nil, append_assoc}
 use Rattle.way_reader.specs.Starts.{element, elements}
 use Rattle.way_reader.specs.declared.way.Way.{Way}
 
@@ -22,8 +22,8 @@ one_element ns count old now next n so is = record {
       ap (λ (ws : List Way). ws ++ elements ns (suc n) k) is ∙ append_assoc now (element ns n []) (elements ns (suc n) k) ∙ so.on (suc k) (one_less n k count h);
 }
 
-none_left : (n count : ℕ) → n ≡ count → n + 0 ≡ count
-none_left n count h = omega arith
+none_left : (n count : ℕ) → n ≤ count → count ≤ n → n + 0 ≡ count
+none_left n count h k = omega arith
 
-pub all_elements : (ns : List ℕ) (count : ℕ) (old now : List Way) (n : ℕ) → HasElements ns count old now n → n ≡ count → now ≡ old ++ elements ns 0 count
-all_elements ns count old now n so is = sym (append-nil now) ∙ so.on 0 (none_left n count is)
+pub all_elements : (ns : List ℕ) (count : ℕ) (old now : List Way) (n : ℕ) → HasElements ns count old now n → n ≤ count → count ≤ n → now ≡ old ++ elements ns 0 count
+all_elements ns count old now n so h k = sym (append-nil now) ∙ so.on 0 (none_left n count h k)

@@ -1,6 +1,7 @@
 pub mod Exactness
 pub mod Ways
 pub mod Laws
+pub mod Cuts
 pub mod Reader
 pub mod Classes
 pub mod Starts

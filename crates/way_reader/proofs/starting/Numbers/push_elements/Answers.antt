@@ -9,4 +9,5 @@ loop-element-preserved c =
     one_element c.args.self.now.numbers.now c.args.self.now.elements c.args.ways.now.items c.loop-element.ways.items c.push_element.new.ways.items c.loop-element.element c.loop-element.invariant c.in_ok-push_element.ensures
 
 pub returns : goal.returns
-returns c = all_elements c.args.self.now.numbers.now c.args.self.now.elements c.args.ways.now.items c.loop-element.ways.items c.loop-element.element c.loop-element.invariant _
+returns c = all_elements c.args.self.now.numbers.now c.args.self.now.elements c.args.ways.now.items c.loop-element.ways.items c.loop-element.element c.loop-element.invariant c.loop-element.auto.element-end
+    c.loop-element-test.false
