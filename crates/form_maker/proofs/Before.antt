@@ -86,6 +86,13 @@ pub ranges_at_end : (test : ℕ → Bool) (last : Option ℕ) (e : Expr) → ran
 ranges_at_end test None e = refl
 ranges_at_end test (Some last) e = refl
 
+pub range_put : (first hi : ℕ) (last : Option ℕ) (old mid new : Making) → last ≡ Some hi → mid ≡ pushed (range first hi) old → new ≡ joined (λ d e. either_of e d) mid → Changes (range_before first last) old new
+range_put first hi last old mid new is one two =
+    λ e m from. two ∙ ap (joined (λ d x. either_of x d)) (one ∙ ap (pushed (range first hi)) from) ∙ ap (λ (o : Option ℕ). pushed (range_before first o e) m) (sym is)
+
+pub range_not : (first : ℕ) (last : Option ℕ) (m : Making) → last ≡ None → Changes (range_before first last) m m
+range_not first last m is = λ e n from. from ∙ ap (λ (o : Option ℕ). pushed (range_before first o e) n) (sym is)
+
 -- a range may be open
 pub no_byte : (test : ℕ → Bool) (bound : ℕ) (last : Option ℕ) (old new : Making) → bound ≡ 0 → Changes (range_before 0 last) old new → Changes (ranges_below test bound last) old new
 no_byte test bound last old new is h =

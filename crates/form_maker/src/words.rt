@@ -98,10 +98,12 @@ impl Maker {
         ensures { OnOk result
             (Changes (spec.range_before first last) (making_of self.old) (making_of self.new)) }
     {
-        if let Some(hi) = last {
-            self.range(ByteRange { lo: first, hi })?;
-            self.either_before()?;
+        match last {
+            None => Ok(()),
+            Some(hi) => {
+                self.range(ByteRange { lo: first, hi })?;
+                self.either_before()
+            }
         }
-        Ok(())
     }
 }
