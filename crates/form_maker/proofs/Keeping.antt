@@ -12,15 +12,15 @@ use Rattle.form_maker.specs.Making.{Making, pushed, joined, moved}
 use Rattle.form_maker.proofs.Attributes.{still_shared, kept_more}
 
 -- the first one that is kept, and one more
-pub kept_first : {e : Expr} {old mid next : Making} → mid ≡ pushed e old → next ≡ moved mid → next ≡ keeping (e ∷ []) old
-kept_first first second = second ∙ ap moved first
+pub kept_first : {e : Expr} {mid next : Making} (old : Making) → mid ≡ pushed e old → next ≡ moved mid → next ≡ keeping (e ∷ []) old
+kept_first old first second = second ∙ ap moved first
 
 pub kept_both : (es fs : List Expr) (old now next : Making) → now ≡ keeping es old → next ≡ keeping fs now → next ≡ keeping (es ++ fs) old
 kept_both es fs old now next first second =
     second ∙ ap (keeping fs) first ∙ ap (λ (k : List Expr). let m : Making = record { stack = old.stack; kept = k } in m) (append_assoc old.kept es fs)
 
-pub kept_next : (es : List Expr) {e : Expr} {old now mid next : Making} → now ≡ keeping es old → mid ≡ pushed e now → next ≡ moved mid → next ≡ keeping (es ++ e ∷ []) old
-kept_next es {e = e} {old = old} {now = now} {mid = mid} {next = next} so first second = kept_both es (e ∷ []) old now next so (kept_first first second)
+pub kept_next : (es : List Expr) {e : Expr} {now mid next : Making} (old : Making) → now ≡ keeping es old → mid ≡ pushed e now → next ≡ moved mid → next ≡ keeping (es ++ e ∷ []) old
+kept_next es {e = e} {now = now} {mid = mid} {next = next} old so first second = kept_both es (e ∷ []) old now next so (kept_first now first second)
 
 -- a tag, from its parts
 pub tag_made : (closer : List ℕ) (entities : List (List ℕ)) (rule : Rule) {m1 m2 m3 m4 m5 m6 m7 m8 m9 : Making} (m0 : Making) → HasShared entities m0 → m1 ≡ pushed (word (codes "<")) m0 → m2 ≡ pushed (word rule.name) m1
@@ -38,10 +38,10 @@ pub element_made : (entities : List (List ℕ)) (rule : Rule) {m1 m2 m3 m4 m5 m6
     → m5 ≡ pushed (end_tag_form rule.name) m4 → m6 ≡ moved m5 → m6 ≡ keeping (element_forms entities rule []) m0
 unfolding start_tag_form empty_tag_form
 element_made entities rule {m2 = m2} m0 h e1 e2 e3 e4 e5 e6 =
-    let first : m2 ≡ keeping (tag_form (codes ">") entities rule ∷ []) m0 = kept_first (e1 h) e2 in
+    let first : m2 ≡ keeping (tag_form (codes ">") entities rule ∷ []) m0 = kept_first m0 (e1 h) e2 in
     let shares : HasShared entities m2 = kept_more entities (tag_form (codes ">") entities rule ∷ []) m0 m2 first h in
-    kept_next (tag_form (codes ">") entities rule ∷ tag_form (codes "/>") entities rule ∷ [])
-    (kept_next (tag_form (codes ">") entities rule ∷ []) first (e3 shares) e4) e5 e6
+    kept_next (tag_form (codes ">") entities rule ∷ tag_form (codes "/>") entities rule ∷ []) m0
+    (kept_next (tag_form (codes ">") entities rule ∷ []) m0 first (e3 shares) e4) e5 e6
 
 -- all that is kept
 pub all_made : (table : Table) {m1 m2 m3 : Making} (m0 : Making) → m0.kept ≡ [] → m1 ≡ keeping (shared table.entities) m0 → m2 ≡ keeping (simple_forms table.doctype) m1
