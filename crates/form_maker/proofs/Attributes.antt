@@ -1,6 +1,6 @@
 -- The attributes of a tag, from the last one on, and tags in their order.
 use Rattle.std.proofs.Common.{◌≡◌, ℕ, Bool, true, false, List, [], ◌∷◌, ◌++◌, Option, Some, None, refl, sym, ◌∙◌, ap, append-nil, append_assoc}
-use Rattle.derivatives.specs.Expressions.{Expr, nothing, empty, range, chain, either, star, among, Members, none, member}
+use Rattle.derivatives.specs.Expressions.{Expr, nothing, empty, Members, none, member}
 use Rattle.dtd_model.specs.Table.{Declared, Rule}
 use Rattle.page_model.specs.Attributes.{must_stand}
 use Rattle.page_forms.specs.Tags.{attribute_form, attribute_members, any_order, with_member}

@@ -1,7 +1,6 @@
 -- What is kept, one behind the other.
-use Rattle.std.proofs.Common.{◌≡◌, ℕ, List, [], ◌∷◌, ◌++◌, refl, sym, ◌∙◌, ap, codes, append_assoc}
-use Rattle.dtd_model.specs.Table.{Rule, Table, cdata, id, idrefs, nmtoken, nmtokens}
-use Rattle.dtd_model.specs.declared.dtd.DoctypeRule.{DoctypeRule}
+use Rattle.std.proofs.Common.{◌≡◌, ℕ, List, [], ◌∷◌, ◌++◌, ◌∙◌, ap, codes, append_assoc}
+use Rattle.dtd_model.specs.Table.{Rule, Table}
 use Rattle.derivatives.specs.Expressions.{Expr}
 use Rattle.derivatives.specs.Derivatives.{chain_of}
 use Rattle.page_forms.specs.Simple.{end_tag_form}

@@ -1,5 +1,5 @@
 -- What a maker holds, as expressions, and what its calls make of it.
-use Rattle.std.specs.Prelude.{◌≡◌, ℕ, Bool, true, false, List, [], ◌∷◌, ◌++◌, map, get_or}
+use Rattle.std.specs.Prelude.{◌≡◌, Bool, true, false, List, [], ◌∷◌, ◌++◌, map}
 use Rattle.derivatives.specs.Expressions.{Expr, nothing, empty, among, none, member}
 use Rattle.derivatives.specs.Derivatives.{chain_of, either_of}
 use Rattle.derivatives.specs.Standing.{expr_at}

@@ -43,8 +43,9 @@ impl Maker {
     {
         match &rule.need {
             Need::Fixed(wanted) => {
-                self.fixed(indexed, &rule.kind, wanted.as_slice(), b'"')?;
-                self.fixed(indexed, &rule.kind, wanted.as_slice(), b'\'')?;
+                let value = wanted.as_slice();
+                self.fixed(indexed, &rule.kind, value, b'"')?;
+                self.fixed(indexed, &rule.kind, value, b'\'')?;
                 self.either()?;
                 self.behind_equals()
             }

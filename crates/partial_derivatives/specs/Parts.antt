@@ -1,6 +1,6 @@
 -- What a byte leaves of expressions, as rows of parts (Antimirov, "Partial derivatives of regular expressions and finite automaton
 -- constructions", 1996). Unlike a derivative, a row names expressions that are there already, by their numbers.
-use Rattle.std.specs.Prelude.{ℕ, Bool, true, ◌&&◌, if◌then◌else◌, List, [], ◌∷◌, ◌++◌, Option, Some, slice_get}
+use Rattle.std.specs.Prelude.{ℕ, Bool, true, false, ◌&&◌, if◌then◌else◌, List, [], ◌∷◌, ◌++◌, Option, Some, slice_get}
 use Rattle.derivatives.specs.Expressions.{Expr, nothing, empty, range, chain, either, star, among, Members, none, member, lies, Joins, Matches}
 use Rattle.derivatives.specs.Derivatives.{may_end}
 use Rattle.derivatives.specs.Standing.{expr_at}

@@ -1,10 +1,10 @@
 -- Where no piece has tokens, the reader puts out one bad token over a page that is not pieces in turn, and nothing over another.
-use Rattle.std.proofs.Common.{◌≡◌, ℕ, ◌<◌, Bool, true, false, List, [], ◌∷◌, ◌++◌, Some, refl, sym, ◌∙◌, ap, append-nil}
+use Rattle.std.proofs.Common.{◌≡◌, ℕ, ◌<◌, true, false, List, [], ◌∷◌, ◌++◌, Some, refl, sym, ◌∙◌, ap}
 use Rattle.std.specs.Prelude.{All}
 use Rattle.text_base.specs.declared.page_token.PageToken.{PageToken}
 use Rattle.derivatives.specs.declared.arena.Arena.{Arena}
 use Rattle.page_model.specs.Places.{Place, at_beginning}
-use Rattle.piece_steps.specs.Languages.{Language, AllLawful, behind_all, spelled_then, tokens_then, NoPiece, left_tokens, HasTokens}
+use Rattle.piece_steps.specs.Languages.{Language, behind_all, spelled_then, tokens_then, NoPiece, left_tokens, HasTokens}
 use Rattle.piece_steps.specs.Readers.{all_tokens}
 use Rattle.piece_steps.proofs.Whole.{tokens_are_read}
 use Rattle.way_reader.specs.Cuts.{IsCut, told, Tells, way_tokens}

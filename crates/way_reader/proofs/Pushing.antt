@@ -1,5 +1,5 @@
 -- The tags of elements are put in their order.
-use Rattle.std.proofs.Common.{◌≡◌, ℕ, zero, suc, ◌+◌, ◌≤◌, List, [], ◌∷◌, ◌++◌, refl, sym, ◌∙◌, ap, arith, append-nil, append_assoc}
+use Rattle.std.proofs.Common.{◌≡◌, ℕ, suc, ◌+◌, ◌≤◌, List, [], ◌++◌, sym, ◌∙◌, ap, arith, append-nil, append_assoc}
 use Rattle.way_reader.specs.Starts.{element, elements}
 use Rattle.way_reader.specs.declared.way.Way.{Way}
 

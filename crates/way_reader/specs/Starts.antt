@@ -1,6 +1,5 @@
 -- The ways in which the pieces of a page begin, by the numbers of their forms.
 use Rattle.std.specs.Prelude.{◌≡◌, ℕ, zero, suc, ◌+◌, ◌*◌, ◌==◌, if◌then◌else◌, List, [], ◌∷◌, ◌++◌, get_or}
-use Rattle.text_base.specs.declared.page_token.PageToken.{PageToken}
 use Rattle.text_base.specs.declared.page_token.PageToken.TheVariants as token
 use Rattle.byte_readers.specs.declared.emit.Emit.{Emit}
 use Rattle.byte_readers.specs.declared.emit.Emit.TheVariants.{Nothing, One, Two}

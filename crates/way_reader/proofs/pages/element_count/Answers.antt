@@ -1,4 +1,4 @@
-use Rattle.std.proofs.Common.{◌≤◌, ◌∙◌, map, sym, ap, length, arith}
+use Rattle.std.proofs.Common.{◌≤◌, map, length, arith}
 use Rattle.std.proofs.lemmas.List.{length-map}
 use Rattle.dtd_model.specs.Table.{rule_of}
 use Rattle.page_rules.proofs.Rules.{few}

@@ -1,10 +1,10 @@
-use Rattle.std.proofs.Common.{◌≡◌, ℕ, suc, ◌-◌, ◌∙◌, sym, arith}
+use Rattle.std.proofs.Common.{◌≡◌, suc, ◌-◌, ◌∙◌, sym, arith}
 use Rattle.form_maker.specs.Making.{making_of}
 use Rattle.form_maker.proofs.Before.{no_byte, byte_in, byte_out}
 use Rattle.form_maker.proofs.maker.Maker.+ranges_below.Goals as goal
 
 pub returns-then-end-eq0 : goal.returns-then-end-eq0
-returns-then-end-eq0 g c =
+returns-then-end-eq0 g t c =
     no_byte (g.T.ByteTest.passing c.args.test.now) c.args.end c.args.last (making_of c.args.self.now) (making_of c.range_before.new.self) c.if-end-eq0.true c.in_ok-range_before.ensures
 
 pub returns-then-passes : goal.returns-then-passes

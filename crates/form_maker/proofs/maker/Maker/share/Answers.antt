@@ -1,5 +1,5 @@
 use Rattle.std.proofs.Common.{[], ◌∷◌}
-use Rattle.dtd_model.specs.Table.{cdata, id, idrefs, nmtoken, nmtokens}
+use Rattle.dtd_model.specs.Table.{cdata, id, idrefs, nmtoken}
 use Rattle.page_forms.specs.References.{reference_form}
 use Rattle.form_maker.specs.Kept.{shared, value_behind}
 use Rattle.form_maker.specs.Making.{making_of}
