@@ -3,5 +3,5 @@ pub mod Members
 pub mod FixedValues
 pub mod Before
 pub mod Attributes
-pub mod Kinds
+pub mod BehindNames
 pub mod Keeping

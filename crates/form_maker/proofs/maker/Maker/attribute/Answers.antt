@@ -2,7 +2,7 @@ use Rattle.std.proofs.Common.{◌∙◌, sym}
 use Rattle.dtd_model.specs.Table.{declared_of}
 use Rattle.dtd_model.specs.TableOf.{table_of}
 use Rattle.form_maker.specs.Making.{making_of}
-use Rattle.form_maker.proofs.Kinds.{on_ok, with_name, without_name}
+use Rattle.form_maker.proofs.BehindNames.{on_ok, with_name, without_name}
 use Rattle.form_maker.proofs.maker.Maker.attribute.Goals as goal
 
 pub returns-then-is_name : goal.returns-then-is_name

@@ -1,7 +1,7 @@
 use Rattle.dtd_model.specs.Table.{cdata, id, idref, idrefs, nmtoken, nmtokens}
 use Rattle.form_maker.specs.Making.{making_of}
 use Rattle.form_maker.specs.Kept.{value_behind}
-use Rattle.form_maker.proofs.Kinds.{on_ok, fetched, cdata_kept, id_kept, idref_kept, idrefs_kept, token_kept, tokens_kept}
+use Rattle.form_maker.proofs.BehindNames.{on_ok, fetched, cdata_kept, id_kept, idref_kept, idrefs_kept, token_kept, tokens_kept}
 use Rattle.form_maker.proofs.maker.Maker.kind_behind.Goals as goal
 
 pub returns-in-Cdata : goal.returns-in-Cdata

@@ -1,6 +1,6 @@
 use Rattle.form_maker.specs.Making.{making_of}
 use Rattle.form_maker.proofs.Before.{range_put, range_not}
-use Rattle.form_maker.proofs.Kinds.{on_ok}
+use Rattle.form_maker.proofs.BehindNames.{on_ok}
 use Rattle.form_maker.proofs.maker.Maker.range_before.Goals as goal
 
 pub returns-in-None : goal.returns-in-None

@@ -3,7 +3,7 @@ use Rattle.dtd_model.specs.Table.{kind_of, presence_of}
 use Rattle.dtd_model.specs.TableOf.{table_of}
 use Rattle.dtd_model.specs.declared.dtd.Need.{Need}
 use Rattle.form_maker.specs.Making.{making_of}
-use Rattle.form_maker.proofs.Kinds.{on_ok, IsPlain, plain_made, fixed_made}
+use Rattle.form_maker.proofs.BehindNames.{on_ok, IsPlain, plain_made, fixed_made}
 use Rattle.form_maker.proofs.maker.Maker.value_behind.Goals as goal
 
 pub returns-in-Fixed : goal.returns-in-Fixed

@@ -1,6 +1,6 @@
 use Rattle.form_maker.specs.Making.{making_of}
 use Rattle.form_maker.proofs.Before.{word_passes, word_fails}
-use Rattle.form_maker.proofs.Kinds.{on_ok}
+use Rattle.form_maker.proofs.BehindNames.{on_ok}
 use Rattle.form_maker.proofs.maker.Maker.word_if.Goals as goal
 
 pub returns-then-passes : goal.returns-then-passes
