@@ -32,14 +32,14 @@ quoted entities q cs h =
 
 -- bytes that are no UTF-8 are no value
 pub no_value : (entities : List (List ℕ)) (k : Kind) (q : ℕ) (bytes : List ℕ) → (IsUtf8 bytes → ⊥) → false ≡ is_fixed_value entities k q bytes
-no_value entities k q bytes no = at (is_fixed_value entities k q bytes) refl
+no_value entities k q bytes none = at (is_fixed_value entities k q bytes) refl
   where
     at : (b : Bool) → is_fixed_value entities k q bytes ≡ b → false ≡ b
     at false e = refl
     at true e =
         let p = and_parts (bytes_eq (encode_utf8_all (chars bytes)) bytes) (is_value entities q (chars bytes) && has_kind k (chars bytes)) e in
         let r = and_parts (is_value entities q (chars bytes)) (has_kind k (chars bytes)) p.1 in
-        absurd (no (chars bytes, (scalars q (chars bytes) (quoted entities q (chars bytes) r.0), same_bytes (encode_utf8_all (chars bytes)) bytes p.0)))
+        absurd (none (chars bytes, (scalars q (chars bytes) (quoted entities q (chars bytes) r.0), same_bytes (encode_utf8_all (chars bytes)) bytes p.0)))
 
 -- of UTF-8 it is the characters that count
 pub value_by_characters : (entities : List (List ℕ)) (k : Kind) (q : ℕ) (bytes text cs : List ℕ) (b : Bool) → text ≡ bytes → IsUtf8 bytes → cs ≡ chars text → b ≡ (is_value entities q cs && has_kind k cs)

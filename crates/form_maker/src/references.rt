@@ -72,7 +72,8 @@ impl Maker {
     {
         let mut left = words;
         while let Some((last, others)) = left.split_last() {
-            self.word_if(test.passes(last.as_slice()), last.as_slice())?;
+            let word = last.as_slice();
+            self.word_if(test.passes(word), word)?;
             left = others;
         }
         Ok(())

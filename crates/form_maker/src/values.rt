@@ -140,12 +140,34 @@ impl Maker {
             ≡ pushed (value_behind entities (kind_of kind.now)) (making_of self.old)) }
     {
         match kind {
-            AttrKind::Cdata => self.fetch(1),
-            AttrKind::Id | AttrKind::Idref => self.fetch(2),
-            AttrKind::Idrefs => self.fetch(3),
-            AttrKind::Nmtoken => self.fetch(4),
-            AttrKind::Nmtokens => self.fetch(5),
-            AttrKind::Choice(tokens) => self.choice_behind(tokens.as_slice()),
+            AttrKind::Cdata => {
+                self.fetch(1)?;
+                Ok(())
+            }
+            AttrKind::Id => {
+                self.fetch(2)?;
+                Ok(())
+            }
+            AttrKind::Idref => {
+                self.fetch(2)?;
+                Ok(())
+            }
+            AttrKind::Idrefs => {
+                self.fetch(3)?;
+                Ok(())
+            }
+            AttrKind::Nmtoken => {
+                self.fetch(4)?;
+                Ok(())
+            }
+            AttrKind::Nmtokens => {
+                self.fetch(5)?;
+                Ok(())
+            }
+            AttrKind::Choice(tokens) => {
+                self.choice_behind(tokens.as_slice())?;
+                Ok(())
+            }
         }
     }
 }

@@ -18,5 +18,5 @@ pub returns : goal.returns
 returns g t c =
     let byte = c.args.end - 1 in
     let is : c.args.end ≡ suc byte = omega arith in
-    byte_out (g.T.ByteTest.passing c.args.test.now) c.args.end byte c.args.last (making_of c.args.self.now) (making_of c.range_before.new.self) (making_of c.ranges_below.new.self) is
-    (sym c.passes.ensures ∙ c.if-passes.false) c.in_ok-range_before.ensures c.in_ok-ranges_below.ensures
+    byte_out (g.T.ByteTest.passing c.args.test.now) c.args.end byte c.args.last (making_of c.args.self.now) (making_of c.range_before-2.new.self) (making_of c.ranges_below-2.new.self) is
+    (sym c.passes.ensures ∙ c.if-passes.false) c.in_ok-range_before-2.ensures c.in_ok-ranges_below-2.ensures

@@ -1,5 +1,5 @@
 use Rattle.std.proofs.Common.{map, ap, ◌∙◌, [], ◌∷◌}
-use Rattle.std.proofs.lemmas.List.{map-append}
+use Rattle.std.proofs.lemmas.List.{map-append, nil_from_length}
 use Rattle.dtd_model.specs.Table.{declared_of}
 use Rattle.dtd_model.specs.TableOf.{table_of}
 use Rattle.form_maker.specs.Making.{making_of}
@@ -24,4 +24,4 @@ pub returns : goal.returns
 returns c =
     λ h.
     all_members (table_of c.args.indexed.now.dtd.now).entities c.args.tag.now (map declared_of c.args.rules.now.items) (map declared_of c.loop-last.left.now) (making_of c.args.self.now) (making_of c.loop-last.self)
-    (c.loop-last.invariant h) (ap (map declared_of) c.in_default.ensures.cases)
+    (c.loop-last.invariant h) (ap (map declared_of) (nil_from_length c.loop-last.left.now c.in_default.ensures.cases))

@@ -1,3 +1,4 @@
+use Rattle.std.proofs.lemmas.List.{nil_from_length}
 use Rattle.form_maker.specs.Making.{making_of}
 use Rattle.form_maker.specs.Words.{word_before}
 use Rattle.form_maker.proofs.Before.{begun, byte_before, all_before}
@@ -12,4 +13,4 @@ loop-last-preserved c =
     c.loop-last.invariant c.in-Some.ensures.cases.0 c.in_ok-byte.ensures c.in_ok-chain_before.ensures
 
 pub returns : goal.returns
-returns c = all_before c.args.word.now c.loop-last.left.now (making_of c.args.self.now) (making_of c.loop-last.self) c.loop-last.invariant c.in_default.ensures.cases
+returns c = all_before c.args.word.now c.loop-last.left.now (making_of c.args.self.now) (making_of c.loop-last.self) c.loop-last.invariant (nil_from_length c.loop-last.left.now c.in_default.ensures.cases)
