@@ -2,7 +2,7 @@ use Rattle.derivatives.proofs.Choices.{occurs_not, occurs_first, occurs_behind, 
 use Rattle.derivatives.proofs.arena.Arena.+occurs.Goals as goal
 
 pub returns-then-y-x : goal.returns-then-y-x
-returns-then-y-x c = occurs_not c.args.self.now c.len-count.ensures.once c.args.x c.args.y c.requires.first c.requires.second c.if-y-x.true
+returns-then-y-x t c = occurs_not c.args.self.now c.len-count.ensures.once c.args.x c.args.y c.requires.first c.requires.second c.if-y-x.true
 
 pub returns-then-first-x : goal.returns-then-first-x
 returns-then-first-x t c = occurs_first c.args.self.now c.args.x c.args.y c.in-Some.first c.in-Some.second c.in-Some.ensures.some c.if-first-x.true
