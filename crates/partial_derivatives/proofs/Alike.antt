@@ -13,7 +13,7 @@ use Rattle.partial_derivatives.specs.declared.part.Member.{Member}
 use Rattle.partial_derivatives.specs.declared.part.Part.{Part}
 use Rattle.partial_derivatives.specs.declared.part.Part.TheVariants.{Whole, Among}
 use Rattle.partial_derivatives.specs.Classes.{last_in_turn, AreClassesInTurn}
-use Rattle.partial_derivatives.specs.Parts.{first_at, second_at, members_from, part_expr, listed, behind, behind_list, behind_members, behind_part, behind_parts}
+use Rattle.partial_derivatives.specs.Parts.{first_at, second_at, members_from, part_expr, listed, parts_at, behind, behind_list, behind_members, behind_part, behind_parts}
 
 lies_alike : (low high b c : ℕ) → b ≤ c → c ≤ last_beside low high b → lies low high c ≡ lies low high b
 lies_alike low high b c h g = grind (arith, nat_tests)
@@ -41,7 +41,7 @@ mutual
   alike a b c empty n rest h g = refl
   alike a b c (range low high) n rest h g = ap (λ (t : Bool). if t then rest ∷ [] else []) (lies_alike low high b c h g)
   alike a b c (chain x y) n rest h g =
-      ap2 ◌++◌ (alike a b c x (first_at a n) (Whole (second_at a n) ∷ rest) h (first_least (may_end x) c (last_alike b x) (last_alike b y) g))
+      ap2 ◌++◌ (alike a b c x (first_at a n) (parts_at a y (second_at a n) ++ rest) h (first_least (may_end x) c (last_alike b x) (last_alike b y) g))
       (second_alike (may_end x) c (last_alike b x) (last_alike b y) (behind a c y (second_at a n) rest) (behind a b y (second_at a n) rest) g (λ k. alike a b c y (second_at a n) rest h k))
   alike a b c (either x y) n rest h g =
       ap2 ◌++◌ (alike a b c x (first_at a n) rest h (least_left c (last_alike b x) (last_alike b y) g)) (alike a b c y (second_at a n) rest h (least_right c (last_alike b x) (last_alike b y) g))

@@ -9,7 +9,7 @@ use Rattle.derivatives.proofs.NormalForms.{chain_shown, chain_made, either_shown
 use Rattle.partial_derivatives.specs.declared.part.Member.{Member}
 use Rattle.partial_derivatives.specs.declared.part.Part.{Part}
 use Rattle.partial_derivatives.specs.declared.part.Part.TheVariants.{Whole, Among}
-use Rattle.partial_derivatives.specs.Parts.{first_at, second_at, members_from, part_expr, InTurn, goes_on, listed, behind, behind_list, behind_members, behind_part}
+use Rattle.partial_derivatives.specs.Parts.{first_at, second_at, members_from, part_expr, InTurn, goes_on, listed, is_star, parts_at, behind, behind_list, behind_members, behind_part}
 use Rattle.partial_derivatives.specs.Laws.{OneMatches}
 use Rattle.partial_derivatives.proofs.Joined.{assoc, assoc_back, nothing_before, one_left, one_right, one_of}
 use Rattle.partial_derivatives.proofs.Fits.{fit_at, fit_list}
@@ -82,6 +82,37 @@ among_chained a x front others turned ms rest w f q s =
     put : {u : List ℕ} → Matches (chain x (among (onto turned ms))) u → Matches (chain x (among_of (onto turned ms))) u
     put (is_chain j d e) = is_chain j d (among_made (onto turned ms) e)
 
+-- other parts behind the expression, which match the same
+with_others : (a : Arena) (x : Expr) (rest others : List Part) (w : List ℕ) → ((v : List ℕ) → InTurn a rest v → InTurn a others v) → Splits a x rest w → Splits a x others w
+with_others a x rest others w f s = record { u = s.u; v = s.v; joins = s.joins; is = s.is; others = f s.v s.others }
+
+taken_off : (a : Arena) (p : Part) (rest : List Part) (w : List ℕ) → InTurn a (p ∷ rest) w → Splits a (part_expr a p) rest w
+taken_off a p rest w (goes_on {u = u} {v = v} j d t) = record { u = u; v = v; joins = j; is = d; others = t }
+
+put_before : (a : Arena) (p : Part) (e : Expr) (rest : List Part) (w : List ℕ) → part_expr a p ≡ e → Splits a e rest w → InTurn a (p ∷ rest) w
+put_before a p e rest w q s = goes_on s.joins (subst (λ (o : Expr). Matches o s.u) (sym q) s.is) s.others
+
+-- the parts of an expression match what it matches as a whole
+chain_again : (a : Arena) (x y : Expr) (n : ℕ) (rest : List Part) (w : List ℕ) → expr_at a n ≡ chain x y → expr_at a (first_at a n) ≡ x → expr_at a (second_at a n) ≡ y
+    → ((v : List ℕ) → InTurn a (parts_at a y (second_at a n) ++ rest) v → InTurn a (Whole (second_at a n) ∷ rest) v) → (t : Bool)
+    → InTurn a ((if t then Whole (first_at a n) ∷ parts_at a y (second_at a n) else Whole n ∷ []) ++ rest) w → InTurn a (Whole n ∷ rest) w
+chain_again a x y n rest w q f g again false k = k
+chain_again a x y n rest w q f g again true k =
+    let s = with_others a (expr_at a (first_at a n)) (parts_at a y (second_at a n) ++ rest) (Whole (second_at a n) ∷ rest) w again (taken_off a (Whole (first_at a n)) (parts_at a y (second_at a n) ++ rest) w k) in
+    let t : Splits a x (Whole (second_at a n) ∷ rest) w = subst (λ (o : Expr). Splits a o (Whole (second_at a n) ∷ rest) w) f s in
+    put_before a (Whole n) (chain x y) rest w q (chained a x y (Whole (second_at a n)) rest w g t)
+
+whole_again : (a : Arena) (e : Expr) (n : ℕ) (rest : List Part) (w : List ℕ) → expr_at a n ≡ e → InTurn a (parts_at a e n ++ rest) w → InTurn a (Whole n ∷ rest) w
+whole_again a nothing n rest w q k = k
+whole_again a empty n rest w q k = k
+whole_again a (range low high) n rest w q k = k
+whole_again a (chain x y) n rest w q k =
+    let f = fit_at a n (chain x y) q in
+    chain_again a x y n rest w q f.0 f.1 (λ v t. whole_again a y (second_at a n) rest v f.1 t) (is_star x) k
+whole_again a (either x y) n rest w q k = k
+whole_again a (star x) n rest w q k = k
+whole_again a (among ms) n rest w q k = k
+
 mutual
   pub shown : (a : Arena) (b : ℕ) (e : Expr) (n : ℕ) (rest : List Part) (w : List ℕ) → expr_at a n ≡ e → OneMatches a (behind a b e n rest) w → Splits a (after b e) rest w
   shown a b nothing n rest w q k = absurd k
@@ -89,9 +120,11 @@ mutual
   shown a b (range low high) n rest w q k = byte_shown a (lies low high b) rest w k
   shown a b (chain x y) n rest w q k =
       let f = fit_at a n (chain x y) q in
-      either_way a (chain_of (after b x) y) (when (may_end x) (after b y)) rest w (behind a b x (first_at a n) (Whole (second_at a n) ∷ rest)) (if may_end x then behind a b y (second_at a n) rest else [])
+      either_way a (chain_of (after b x) y) (when (may_end x) (after b y)) rest w (behind a b x (first_at a n) (parts_at a y (second_at a n) ++ rest)) (if may_end x then behind a b y (second_at a n) rest else [])
       (λ l. into a (chain (after b x) y) (chain_of (after b x) y) rest w (λ u d. chain_made (after b x) y d)
-      (chained a (after b x) y (Whole (second_at a n)) rest w f.1 (shown a b x (first_at a n) (Whole (second_at a n) ∷ rest) w f.0 l)))
+      (chained a (after b x) y (Whole (second_at a n)) rest w f.1
+      (with_others a (after b x) (parts_at a y (second_at a n) ++ rest) (Whole (second_at a n) ∷ rest) w (λ v t. whole_again a y (second_at a n) rest v f.1 t)
+      (shown a b x (first_at a n) (parts_at a y (second_at a n) ++ rest) w f.0 l))))
       (λ r. if_ending a (may_end x) (after b y) rest w (behind a b y (second_at a n) rest) (λ s. shown a b y (second_at a n) rest w f.1 s) r) k
   shown a b (either x y) n rest w q k =
       let f = fit_at a n (either x y) q in
@@ -143,6 +176,26 @@ unchained a x y p rest w q s = at s.is
       others = goes_on z.1 (subst (λ (o : Expr). Matches o v) (sym q) e) s.others;
     }
 
+chain_in_parts : (a : Arena) (x y : Expr) (n : ℕ) (rest : List Part) (w : List ℕ) → expr_at a n ≡ chain x y → expr_at a (first_at a n) ≡ x → expr_at a (second_at a n) ≡ y
+    → ((v : List ℕ) → InTurn a (Whole (second_at a n) ∷ rest) v → InTurn a (parts_at a y (second_at a n) ++ rest) v) → (t : Bool)
+    → InTurn a (Whole n ∷ rest) w → InTurn a ((if t then Whole (first_at a n) ∷ parts_at a y (second_at a n) else Whole n ∷ []) ++ rest) w
+chain_in_parts a x y n rest w q f g again false k = k
+chain_in_parts a x y n rest w q f g again true k =
+    let s : Splits a (chain x y) rest w = subst (λ (o : Expr). Splits a o rest w) q (taken_off a (Whole n) rest w k) in
+    put_before a (Whole (first_at a n)) x (parts_at a y (second_at a n) ++ rest) w f
+    (with_others a x (Whole (second_at a n) ∷ rest) (parts_at a y (second_at a n) ++ rest) w again (unchained a x y (Whole (second_at a n)) rest w g s))
+
+in_parts_again : (a : Arena) (e : Expr) (n : ℕ) (rest : List Part) (w : List ℕ) → expr_at a n ≡ e → InTurn a (Whole n ∷ rest) w → InTurn a (parts_at a e n ++ rest) w
+in_parts_again a nothing n rest w q k = k
+in_parts_again a empty n rest w q k = k
+in_parts_again a (range low high) n rest w q k = k
+in_parts_again a (chain x y) n rest w q k =
+    let f = fit_at a n (chain x y) q in
+    chain_in_parts a x y n rest w q f.0 f.1 (λ v t. in_parts_again a y (second_at a n) rest v f.1 t) (is_star x) k
+in_parts_again a (either x y) n rest w q k = k
+in_parts_again a (star x) n rest w q k = k
+in_parts_again a (among ms) n rest w q k = k
+
 byte_made : (a : Arena) (t : Bool) (rest : List Part) (w : List ℕ) → Splits a (when t empty) rest w → OneMatches a (if t then rest ∷ [] else []) w
 byte_made a false rest w s = elim (s.is) [ ]
 byte_made a true rest w s = inl (at s.is s.joins)
@@ -178,9 +231,10 @@ mutual
   made a b (range low high) n rest w q s = byte_made a (lies low high b) rest w s
   made a b (chain x y) n rest w q s =
       let f = fit_at a n (chain x y) q in
-      one_way a (chain_of (after b x) y) (when (may_end x) (after b y)) rest w (behind a b x (first_at a n) (Whole (second_at a n) ∷ rest)) (if may_end x then behind a b y (second_at a n) rest else [])
-      (λ l. made a b x (first_at a n) (Whole (second_at a n) ∷ rest) w f.0
-      (unchained a (after b x) y (Whole (second_at a n)) rest w f.1 (into a (chain_of (after b x) y) (chain (after b x) y) rest w (λ u d. chain_shown (after b x) y d) l)))
+      one_way a (chain_of (after b x) y) (when (may_end x) (after b y)) rest w (behind a b x (first_at a n) (parts_at a y (second_at a n) ++ rest)) (if may_end x then behind a b y (second_at a n) rest else [])
+      (λ l. made a b x (first_at a n) (parts_at a y (second_at a n) ++ rest) w f.0
+      (with_others a (after b x) (Whole (second_at a n) ∷ rest) (parts_at a y (second_at a n) ++ rest) w (λ v t. in_parts_again a y (second_at a n) rest v f.1 t)
+      (unchained a (after b x) y (Whole (second_at a n)) rest w f.1 (into a (chain_of (after b x) y) (chain (after b x) y) rest w (λ u d. chain_shown (after b x) y d) l))))
       (λ r. ending_made a (may_end x) (after b y) rest w (behind a b y (second_at a n) rest) (λ t. made a b y (second_at a n) rest w f.1 t) r) s
   made a b (either x y) n rest w q s =
       let f = fit_at a n (either x y) q in

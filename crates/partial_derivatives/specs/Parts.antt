@@ -1,6 +1,6 @@
 -- What a byte leaves of expressions, as rows of parts (Antimirov, "Partial derivatives of regular expressions and finite automaton
 -- constructions", 1996). Unlike a derivative, a row names expressions that are there already, by their numbers.
-use Rattle.std.specs.Prelude.{ℕ, Bool, true, ◌&&◌, if◌then◌else◌, List, [], ◌∷◌, ◌++◌, Option, Some, slice_get}
+use Rattle.std.specs.Prelude.{ℕ, Bool, true, false, ◌&&◌, if◌then◌else◌, List, [], ◌∷◌, ◌++◌, Option, Some, slice_get}
 use Rattle.derivatives.specs.Expressions.{Expr, nothing, empty, range, chain, either, star, among, Members, none, member, lies, Joins, Matches}
 use Rattle.derivatives.specs.Derivatives.{may_end}
 use Rattle.derivatives.specs.Standing.{expr_at}
@@ -60,6 +60,17 @@ abbrev pub listed : Arena → Members → ℕ → List Member
 listed a none n = []
 listed a (member e q ms) n = record { place = first_at a n; required = q } ∷ listed a ms (second_at a n)
 
+-- the expression is any number of texts of another
+abbrev pub is_star : Expr → Bool
+is_star (star x) = true
+is_star e = false
+
+-- an expression as parts in turn: of a chain that begins with any number of texts of another, these are a part of their own, so that before
+-- such a text and behind it there are the same parts
+abbrev pub parts_at : Arena → Expr → ℕ → List Part
+parts_at a (chain x y) n = if is_star x then Whole (first_at a n) ∷ parts_at a y (second_at a n) else Whole n ∷ []
+parts_at a e n = Whole n ∷ []
+
 abbrev mutual
   -- the rows that the byte leaves of the expression with this number, each with these parts behind it
   pub behind : Arena → ℕ → Expr → ℕ → List Part → List (List Part)
@@ -67,7 +78,7 @@ abbrev mutual
   behind a b empty n rest = []
   behind a b (range low high) n rest = if lies low high b then rest ∷ [] else []
   behind a b (chain x y) n rest =
-      behind a b x (first_at a n) (Whole (second_at a n) ∷ rest) ++ (if may_end x then behind a b y (second_at a n) rest else [])
+      behind a b x (first_at a n) (parts_at a y (second_at a n) ++ rest) ++ (if may_end x then behind a b y (second_at a n) rest else [])
   behind a b (either x y) n rest = behind a b x (first_at a n) rest ++ behind a b y (second_at a n) rest
   behind a b (star x) n rest = behind a b x (first_at a n) (Whole n ∷ rest)
   behind a b (among ms) n rest = behind_list a b ms (first_at a n) [] rest

@@ -1,8 +1,9 @@
 //! Copies of parts.
 
 ghost use Rattle.std.specs.Prelude.{◌≡◌, ◌∷◌, ◌++◌, IfOk, OnOk};
-ghost use Rattle.derivatives.specs.Standing.{IsList, members_at};
-ghost use Rattle.partial_derivatives.specs.Parts.{listed};
+ghost use Rattle.derivatives.specs.Standing.{IsExpr, IsList, expr_at, members_at};
+ghost use Rattle.partial_derivatives.specs.Parts.{listed, parts_at};
+ghost use Rattle.partial_derivatives.specs.Parts as spec;
 
 use crate::part::{Member, Part};
 use crate::row::Row;
@@ -47,6 +48,67 @@ pub(crate) fn before(alloc: Global, part: Part, rest: &[Part]) -> Result<Row<Par
 {
     let mut row = Row::new(alloc);
     row.push(part)?;
+    push_copies(alloc, &mut row, rest)?;
+    Ok(row)
+}
+
+/// Whether an expression is any number of texts of another.
+fn is_star(arena: &Arena, place: usize) -> bool
+    requires { IsExpr arena.now place }
+    ensures { result ≡ spec.is_star (expr_at arena.now place) }
+{
+    match arena.node(place) {
+        Node::Star(_) => true,
+        Node::Nothing
+        | Node::Empty
+        | Node::Range(_, _)
+        | Node::Chain(_, _)
+        | Node::Either(_, _)
+        | Node::Among(_)
+        | Node::NoMore
+        | Node::Member(_, _, _) => false,
+    }
+}
+
+/// Puts the parts of an expression behind others.
+fn push_parts(arena: &Arena, row: &mut Row<Part>, place: usize) -> Result<(), NoMemory>
+    requires { IsExpr arena.now place }
+    ensures { OnOk result
+        (row.new ≡ row.old ++ parts_at arena.now (expr_at arena.now place) place) }
+{
+    match arena.node(place) {
+        Node::Chain(x, y) => {
+            if is_star(arena, x) {
+                row.push(Part::Whole(x))?;
+                push_parts(arena, row, y)
+            } else {
+                row.push(Part::Whole(place))
+            }
+        }
+        Node::Nothing
+        | Node::Empty
+        | Node::Range(_, _)
+        | Node::Either(_, _)
+        | Node::Star(_)
+        | Node::Among(_)
+        | Node::NoMore
+        | Node::Member(_, _, _) => row.push(Part::Whole(place)),
+    }
+}
+
+/// The parts of an expression, and others behind them.
+pub(crate) fn in_parts(
+    alloc: Global,
+    arena: &Arena,
+    place: usize,
+    rest: &[Part],
+) -> Result<Row<Part>, NoMemory>
+    requires { IsExpr arena.now place }
+    ensures { IfOk result
+        (λ row. row ≡ parts_at arena.now (expr_at arena.now place) place ++ rest.now) }
+{
+    let mut row = Row::new(alloc);
+    push_parts(arena, &mut row, place)?;
     push_copies(alloc, &mut row, rest)?;
     Ok(row)
 }

@@ -5,7 +5,7 @@ ghost use Rattle.derivatives.specs.Expressions.{lies};
 ghost use Rattle.derivatives.specs.Standing.{expr_at, members_at, IsExpr, IsList};
 ghost use Rattle.partial_derivatives.specs.Parts.{behind, behind_list, behind_members, behind_part, behind_parts};
 
-use crate::copying::{before, copy_parts, push_listed};
+use crate::copying::{before, copy_parts, in_parts, push_listed};
 use crate::ending::part_ends;
 use crate::part::{Member, Part};
 use crate::row::Row;
@@ -57,7 +57,7 @@ impl<'a> Taking<'a> {
                 Ok(())
             }
             Node::Chain(x, y) => {
-                let longer = before(self.alloc, Part::Whole(y), rest)?;
+                let longer = in_parts(self.alloc, self.arena, y, rest)?;
                 self.whole(rows, x, longer.as_slice())?;
                 if self.arena.may_end(x) {
                     self.whole(rows, y, rest)?;

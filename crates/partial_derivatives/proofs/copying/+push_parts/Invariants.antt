@@ -1,0 +1,4 @@
+use Rattle.partial_derivatives.proofs.copying.+push_parts.Given as goal
+
+abbrev pub decreases-push_parts : goal.decreases-push_parts
+decreases-push_parts l = l.place
