@@ -13,10 +13,11 @@ Lists = SetName → List (Form SetName)
 abbrev pub table_of : Lists → List SetName → SetName → Form SetName → Type 0
 table_of lists names n f = Contains names n × Contains (lists n) f
 
--- the rows of one name, and of these names, in their order
+-- the rows of one name
 abbrev pub rows_of_name : SetName → List (Form SetName) → List (SetName × Form SetName)
 rows_of_name n forms = map (λ f. (n, f)) forms
 
+-- the rows of these names, in their order
 abbrev pub rows_of : Lists → List SetName → List (SetName × Form SetName)
 rows_of lists names = flat_map (λ n. rows_of_name n (lists n)) names
 
@@ -24,10 +25,11 @@ rows_of lists names = flat_map (λ n. rows_of_name n (lists n)) names
 abbrev pub bytes_of : List (Form SetName) → ℕ
 bytes_of forms = sum_by (λ f. text_bytes f) forms
 
--- how many forms are listed for these names together, and how many bytes stand in these
+-- how many forms are listed for these names together
 abbrev pub forms_in : Lists → List SetName → ℕ
 forms_in lists names = sum_by (λ n. length (lists n)) names
 
+-- how many bytes stand in these forms
 abbrev pub bytes_in : Lists → List SetName → ℕ
 bytes_in lists names = sum_by (λ n. bytes_of (lists n)) names
 
