@@ -1,13 +1,13 @@
 -- The reader by ways reads the pieces of a page, and puts out its tokens.
-use Rattle.std.proofs.Common.{◌≡◌, ℕ, List, [], ◌∷◌, ◌++◌, Some, refl, sym, ◌∙◌, append-nil}
+use Rattle.std.proofs.Common.{◌≡◌, ℕ, List, [], ◌∷◌, ◌++◌, Some, refl, sym, ◌∙◌, ap, append-nil}
 use Rattle.std.specs.Str.{encode_utf8_all}
 use Rattle.byte_readers.specs.Reading.{tokens_over}
 use Rattle.dtd_model.specs.Table.{Table}
 use Rattle.derivatives.specs.declared.arena.Arena.{Arena}
 use Rattle.piece_steps.specs.Readers.{all_tokens}
 use Rattle.piece_steps.proofs.Whole.{tokens_are_read}
-use Rattle.page_model.specs.PageTokens.{IsLawful, piece_bytes}
-use Rattle.page_model.specs.Pieces.{Piece, piece_then}
+use Rattle.page_model.specs.PageTokens.{IsLawful, piece_bytes, piece_tokens}
+use Rattle.page_model.specs.Pieces.{Piece, piece_then, after}
 use Rattle.page_model.specs.Places.{Place, at_beginning}
 use Rattle.page_model.proofs.Encoding.{some_bytes}
 use Rattle.page_model.proofs.Once.{some_character, one_of_bytes}
@@ -31,8 +31,11 @@ filled table place p l e = at (piece_then p []) refl e
     at (c ∷ cs) s q = some_bytes c (encode_utf8_all cs) q
 
 -- and none goes on where another ends
-alone : (table : Table) (place : Place) (p q : Piece) (v : List ℕ) → IsLawful table place p → IsLawful table place q → piece_bytes p ++ v ≡ piece_bytes q → (v ≡ []) × (p ≡ q)
-alone table place p q v l m e = let o = one_of_bytes place p q v [] l.is m.is (e ∙ sym (append-nil (piece_bytes q))) in (o.rest, o.piece)
+alone : (table : Table) (place : Place) (p q : Piece) (v : List ℕ) → IsLawful table place p → IsLawful table place q → piece_bytes p ++ v ≡ piece_bytes q
+    → (v ≡ []) × (piece_tokens table p ≡ piece_tokens table q) × (after place p ≡ after place q)
+alone table place p q v l m e =
+    let o = one_of_bytes place p q v [] l.is m.is (e ∙ sym (append-nil (piece_bytes q))) in
+    (o.rest, ap (piece_tokens table) o.piece, ap (after place) o.piece)
 
 have_pieces : (table : Table) → IsLawfulTable table → (a : Arena) (starts : Place → List Way) → HaveForms table a starts → HavePieces (byte_language table) a starts
 have_pieces table h a starts f = record {
