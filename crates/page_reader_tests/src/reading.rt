@@ -11,7 +11,6 @@ use io_edge::MemFiles;
 use merged_reader::MergedReader;
 use page_lexer::PageLexer;
 use page_reader::PageReader;
-use page_runs::PageRunReader;
 use std::alloc::Global;
 use std::test::Fail;
 use text_base::{ByteRange, Bytes, NoMemory};
@@ -184,7 +183,8 @@ fn state_behind<R: ByteReader>(
 /// by all bytes.
 pub fn runs_and_moves(alloc: Global, dtd: &Dtd, text: &[u8]) -> Result<(usize, usize), NoMemory> {
     let indexed = IndexedDtd::new(alloc, dtd)?;
-    let reader = PageRunReader { indexed: &indexed };
+    let ways = PieceWays::of_pages(alloc, &indexed)?;
+    let reader = WayReader { ways: &ways };
     let state = state_behind(alloc, &reader, text)?;
     let runs = runs_from(&reader, &state);
     let machine = Echoing { reader };
