@@ -3,7 +3,7 @@
 //! Promise: the numbers of `all_forms` stand for the forms of a definition of documents
 //! (`all_forms` of specs/Kept); each call of `Maker` makes exactly what `making_of` of specs/Making
 //! says.
-//! Used by: way_reader.
+//! Used by: way_reader, broken_readers.
 #![tactic(auto)]
 
 mod basics;

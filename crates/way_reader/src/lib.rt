@@ -3,7 +3,7 @@
 //! `of_pages` have, it puts out
 //! exactly the tokens of each page (`pages_are_read`: `PagesAreRead` of specs/Laws, over
 //! `PageTokens` of page_model).
-//! Used by: none yet.
+//! Used by: broken_readers, broken_search, script_decision, page_reader_tests, decision_tests.
 #![tactic(auto)]
 
 mod laws;
