@@ -1,5 +1,5 @@
 -- The tags of elements are put in their order.
-use Rattle.std.proofs.Common.{◌≡◌, ℕ, suc, ◌+◌, ◌≤◌, List, [], ◌++◌, sym, ◌∙◌, ap, arith, append-nil, append_assoc}
+use Rattle.std.proofs.Common.{◌≡◌, ℕ, suc, ◌+◌, ◌≤◌, List, [], ◌++◌, sym, ◌∙◌, ap, subst, arith, append-nil, append_assoc}
 use Rattle.way_reader.specs.Starts.{element, elements}
 use Rattle.way_reader.specs.declared.way.Way.{Way}
 
@@ -16,11 +16,17 @@ no_element ns count old = record { on = λ k h. ap (λ (j : ℕ). old ++ element
 one_less : (n k count : ℕ) → suc n + k ≡ count → n + suc k ≡ count
 one_less n k count h = omega arith
 
-pub one_element : (ns : List ℕ) (count : ℕ) (old now next : List Way) (n : ℕ) → HasElements ns count old now n → next ≡ now ++ element ns n [] → HasElements ns count old next (suc n)
-one_element ns count old now next n so is = record {
-  on = λ k h.
-      ap (λ (ws : List Way). ws ++ elements ns (suc n) k) is ∙ append_assoc now (element ns n []) (elements ns (suc n) k) ∙ so.on (suc k) (one_less n k count h);
-}
+behind_one : (n : ℕ) → suc n ≡ n + 1
+behind_one n = omega arith
+
+pub one_element : (ns : List ℕ) (count : ℕ) (old now next : List Way) (n : ℕ) → HasElements ns count old now n → next ≡ now ++ element ns n [] → HasElements ns count old next (n + 1)
+one_element ns count old now next n so is = subst (λ (m : ℕ). HasElements ns count old next m) (behind_one n) more
+  where
+    more : HasElements ns count old next (suc n)
+    more = record {
+      on = λ k h.
+          ap (λ (ws : List Way). ws ++ elements ns (suc n) k) is ∙ append_assoc now (element ns n []) (elements ns (suc n) k) ∙ so.on (suc k) (one_less n k count h);
+    }
 
 none_left : (n count : ℕ) → n ≤ count → count ≤ n → n + 0 ≡ count
 none_left n count h k = omega arith

@@ -8,5 +8,5 @@ pub overflow_cast-result : goal.overflow_cast-result
 overflow_cast-result c =
     let d = c.args.dtd.now in
     let f : length (map rule_of d.elements.items) ≤ 1024 = few (map rule_of d.elements.items) d.entities.items d.lawful in
-    let l = length-map rule_of d.elements.items in
+    let l = length-map d.elements.items rule_of in
     omega (arith, f, l)

@@ -51,7 +51,7 @@ given : (a : Arena) (ns : List ℕ) (i : ℕ) (emit : Emit) (e : Expr) (ts : Lis
 given a ns i emit e ts is t = record { number = number_at ns i; parts = refl; is = is; tokens = t; leads = refl }
 
 -- tags
-Tags : Arena → List ℕ → List Expr → ℕ → Type 0
+abbrev Tags : Arena → List ℕ → List Expr → ℕ → Type 0
 Tags a ns es n = (i : ℕ) (e : Expr) → slice_get es i ≡ Some e → expr_at a (number_at ns (18 + 3 * n + i)) ≡ e
 
 first_of : (n : ℕ) → 18 + 3 * n + 0 ≡ 18 + 3 * n
@@ -74,10 +74,10 @@ tags_whole a ns entities n (rule ∷ rules) h = (
 )
 
 -- the forms at a place, by the number of what stands at each
-Stands : Arena → List ℕ → Table → Type 0
+abbrev Stands : Arena → List ℕ → Table → Type 0
 Stands a ns table = (i : ℕ) (e : Expr) → slice_get (all_forms table) i ≡ Some e → expr_at a (number_at ns i) ≡ e
 
-behind_all : ℕ → ℕ
+abbrev behind_all : ℕ → ℕ
 behind_all i = suc (suc (suc (suc (suc (suc (suc (suc (suc (suc (suc (suc (suc (suc (suc (suc (suc (suc i)))))))))))))))))
 
 behind_all_is : (i : ℕ) → 18 + 3 * 0 + i ≡ behind_all i
