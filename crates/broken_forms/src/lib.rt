@@ -2,7 +2,7 @@
 //! over bytes. Promise: the texts of the forms at a place are exactly the loose pieces there, with
 //! the place behind them (`loose_pieces_are_spelled`: `LoosePiecesAreSpelled` of specs/Laws); none
 //! goes on where another ends; a page that is no coarse pieces in turn is broken.
-//! Used by: none yet.
+//! Used by: broken_readers, broken_search.
 #![tactic(auto)]
 
 mod laws;

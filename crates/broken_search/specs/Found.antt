@@ -5,10 +5,14 @@ use Rattle.dtd_model.specs.Table.{Table}
 use Rattle.derivations.specs.declared.derivation.Derivation.{Derivation}
 use Rattle.page_model.specs.Broken.{Broken}
 use Rattle.grammar_image.specs.declared.refusal.ImageRefusal.{ImageRefusal}
+use Rattle.grammar_image.specs.declared.refusal.ImageRefusal.TheVariants.{Large, Memory}
 use Rattle.grammar_image.specs.Refusals.{IsCause}
-use Rattle.echoing_machine.specs.Echoes.{EchoStep}
-use Rattle.loose_reader.specs.States.{first_state, tokens_at, tokens_behind}
-use Rattle.merged_loose.specs.States.{merged_loose_next}
+use Rattle.derivatives.specs.declared.arena.Arena.{Arena}
+use Rattle.page_model.specs.Places.{Place}
+use Rattle.way_reader.specs.declared.way.Way.{Way}
+use Rattle.way_reader.specs.Ways.{first_state}
+use Rattle.broken_readers.specs.Laws.{WayStep}
+use Rattle.broken_readers.specs.Starts.{AreLooseWays}
 
 -- it is a derivation of one of the pages, which is broken by the definition
 pub record IsBrokenPage (table : Table) (IsPage : List ℕ → Type 0) (Derives : Derivation → List ℕ → Type 0) (derivation : Derivation) :
@@ -18,8 +22,9 @@ pub record IsBrokenPage (table : Table) (IsPage : List ℕ → Type 0) (Derives 
   pub broken : Broken table page
   pub derives : Derives derivation page
 
--- why a search has no answer: the image of the grammar under the machine that echoes with the reader of loose pieces has so many items,
--- over the limit; want of memory says nothing
+-- why a search has no answer: there are so many items, over the limit, in the image of the grammar under the machine that echoes with a
+-- reader by ways that are the loose forms as wholes; want of memory says nothing
 abbrev pub IsSearchCause : Table → Grammar → ℕ → ImageRefusal → Type 0
-IsSearchCause table grammar items = IsCause grammar.productions.items
-    (EchoStep (merged_loose_next table) (tokens_at table) (tokens_behind table)) grammar.start first_state items
+IsSearchCause table grammar items (Large count) = (a : Arena) × (starts : Place → List Way) × AreLooseWays table a starts
+    × IsCause grammar.productions.items (WayStep a starts) grammar.start first_state items (Large count)
+IsSearchCause table grammar items Memory = Unit {0}

@@ -2,7 +2,7 @@
 //! bytes are the UTF-8 of, what is kept of a state, and where a byte leads (`StateMove`). Promise:
 //! each call is, through the views of open_pieces and specs/Views, the function of its name in
 //! character_steps, page_model or page_steps.
-//! Used by: loose_reader, page_stepping, page_reader, merged_reader.
+//! Used by: page_stepping, page_reader, merged_reader, phpsa_texts.
 #![tactic(auto)]
 
 mod bytes;

@@ -2,7 +2,7 @@
 //! whatever the definition of documents is. No code stands here but functions that do nothing.
 //! Promise: no coarse piece goes on where another ends (`coarse_pieces_end_once`: `CoarseEndsOnce`
 //! of specs/Laws), and the texts of lawful pieces are coarse ones (`lawful_texts_are_coarse`).
-//! Used by: broken_forms.
+//! Used by: broken_forms, broken_readers, script_decision.
 #![tactic(auto)]
 
 mod laws;

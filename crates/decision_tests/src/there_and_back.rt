@@ -11,13 +11,12 @@ use dtd_index::IndexedDtd;
 use dtd_model::{Dtd, mini};
 use echoing_machine::{Echoing, RunReader};
 use io_edge::MemSink;
-use merged_reader::laws::reads_pages;
 use page_decision::echo_laws::echo_is_page_machine;
 use page_decision::{Goal, decide_pages, sums_of};
-use page_runs::PageRunReader;
 use std::alloc::Global;
 use std::test::Fail;
 use summary_decision::Verdict;
+use way_reader::{PieceWays, WayReader};
 
 // The derivation of a page that is not nested, by a reader of pages.
 fn not_nested_by<R: RunReader + Drop>(
@@ -51,9 +50,10 @@ fn not_nested_by<R: RunReader + Drop>(
 
 // The same by the reader of a definition.
 fn not_nested(alloc: Global, grammar: &Grammar, indexed: &IndexedDtd<'_>) -> Option<Derivation> {
-    reads_pages(indexed.dtd);
-    let reader = PageRunReader { indexed };
-    not_nested_by(alloc, grammar, indexed.dtd, reader)
+    match PieceWays::of_pages(alloc, indexed) {
+        Ok(ways) => not_nested_by(alloc, grammar, indexed.dtd, WayReader { ways: &ways }),
+        Err(_) => None,
+    }
 }
 
 // The second end closes no body: the derivation of the no is one of that page by the grammar, which

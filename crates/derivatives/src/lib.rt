@@ -2,7 +2,7 @@
 //! Promise: `derivative` gives the number of what a byte leaves of an expression (`IsMade` of
 //! specs/Standing, `after` of specs/Derivatives), which matches exactly what may follow the byte
 //! (`IsDerivative` of specs/Laws), and is `nothing` where nothing may (`FailsAtOnce`).
-//! Used by: byte_forms, page_forms, partial_derivatives, policy_matching and others.
+//! Used by page_forms, byte_forms, page_policy, way_reader and others.
 #![tactic(auto)]
 
 mod answering;

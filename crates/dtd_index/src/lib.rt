@@ -2,7 +2,7 @@
 //! made once for a page.
 //! Promise: `element` and `has_entity` of `IndexedDtd` say exactly what the table of the definition
 //! says (`table_of` of dtd_model, `names_of_rules` of specs/Keys).
-//! Used by page_lexer, loose_reader, page_rules, reference_stepping and others.
+//! Used by page_rules, way_reader, page_reader, merged_reader and others.
 #![tactic(auto)]
 
 mod indexed;

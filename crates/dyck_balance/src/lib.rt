@@ -1,7 +1,7 @@
 //! Sums of page tokens by nesting alone (`Nesting`, a `Summary` of tag_sums): which tags are open.
 //! Promise: a sum is whole exactly where the tokens are those of a tree (`whole_is_nested`:
 //! `WholeIsNested` of specs/Laws, over `IsNested` of tag_sums).
-//! Used by: page_decision, coarse_reader, loose_machine, broken_search, decision_tests, decision_bench.
+//! Used by page_decision, broken_readers, policy_matching, short_page and others.
 #![tactic(auto)]
 
 mod join;

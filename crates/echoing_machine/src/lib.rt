@@ -2,7 +2,7 @@
 //! (`RunReader`): it puts out the text itself with the reader's tokens between its bytes
 //! (`Echoing`). Promise: over each text there is exactly this output (`echo_of`), its bytes are the
 //! text and its tokens those of the reader (`machine_echoes`: `IsEcho` of specs/Echoes).
-//! Used by script_decision, page_decision, coarse_reader, page_runs and others.
+//! Used by page_decision, way_reader, broken_readers, policy_matching and others.
 #![tactic(auto)]
 
 mod groups;

@@ -1,7 +1,7 @@
 //! A reader of pages whose states are the forms that a text can still be of, as definitions.
 //! Promise: by each lawful definition it reads the pieces of a page and nothing else
 //! (`forms_are_read`), so it puts out a page's tokens (`page_tokens_are_read`, over `PageTokens`).
-//! Used by: none yet.
+//! Used by: way_reader, broken_readers, script_decision.
 #![tactic(auto)]
 
 mod laws;

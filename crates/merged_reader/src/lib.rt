@@ -2,7 +2,7 @@
 //! of page_reader, but that it keeps of an open character and of an open number only what makes a
 //! difference (`merged` of specs/States). Promise: over each page of bytes it puts out exactly the
 //! tokens of the page (`reads_pages`: `IsMergedReaderOf` of specs/Laws).
-//! Used by page_lexer, reader_fronts, script_decision, page_runs and others.
+//! Used by: reader_fronts, page_lexer, page_reader_tests, page_bench.
 #![tactic(auto)]
 
 mod alike;

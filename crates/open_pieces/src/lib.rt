@@ -2,7 +2,7 @@
 //! and hashed. Promise: each value stands for one of page_model and page_steps (`plain_open`,
 //! `plain_state` and `plain_held` of specs/Views), and two that `==` finds equal are one
 //! (`exact_piece`, `exact_state` and `exact_held` of specs/OpenExactness and specs/StateExactness).
-//! Used by state_codes, loose_reader, reference_stepping, value_stepping and others.
+//! Used by remark_stepping, byte_stepping, page_reader, merged_reader and others.
 #![tactic(auto)]
 
 mod attribute;

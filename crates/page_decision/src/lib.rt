@@ -2,7 +2,7 @@
 //! for any machine that reads the tokens of pages. Promise: `decide_pages` says yes only where each
 //! page is good, no only with a derivation of one that is not, and a limit only where it is passed
 //! (`verdict`: `IsPageVerdict` of specs/PageVerdicts).
-//! Used by script_decision, coarse_reader, loose_machine, broken_search and others.
+//! Used by phpsa_main, broken_readers, policy_matching, script_decision and others.
 #![tactic(auto)]
 
 mod bytes;

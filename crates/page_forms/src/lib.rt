@@ -1,7 +1,7 @@
 //! The pieces of a page as expressions over bytes.
 //! Promise: the form of a kind of piece matches exactly the bytes of the lawful pieces of that kind
 //! (`IsFormOf` of specs/Laws), all together those of the pieces at a place (`PiecesAreSpelled`).
-//! Used by: form_reader.
+//! Used by way_reader, coarse_forms, form_reader, broken_forms and others.
 #![tactic(auto)]
 
 mod laws;

@@ -1,13 +1,15 @@
 //! Generated pages: whole pieces and their fragments in any order, by a row of numbers that looks
-//! drawn. Both readers and the lexer put out over each of them what a plain reading piece by piece gives.
+//! drawn. All readers and the lexer put out over each of them what a plain reading piece by piece gives.
 
 use crate::by_pieces::words_by_pieces;
-use crate::reading::{all_say, definition};
+use crate::reading::{all_say_by, definition};
+use dtd_index::IndexedDtd;
 use rand_core::utils::NextWord;
 use rand_pcg::Pcg32;
 use std::alloc::Global;
 use std::test::Fail;
 use text_base::{Bytes, NoMemory};
+use way_reader::PieceWays;
 
 const DEFINITION: &[u8] = b"<!ELEMENT html (body)>
 <!ELEMENT body (p | br)*>
@@ -108,13 +110,15 @@ fn generated(alloc: Global, numbers: &mut Pcg32) -> Result<String, NoMemory> {
 fn readers_agree_with_pieces(rt: HostRuntime) -> Result<(), Fail> {
     let alloc = rt.alloc();
     let dtd = definition(alloc, DEFINITION)?;
+    let indexed = IndexedDtd::new(alloc, &dtd)?;
+    let ways = PieceWays::of_pages(alloc, &indexed)?;
     let mut numbers = Pcg32::new(2026, 11);
     let mut lawful = 0u32;
     for _ in 0..4000u32 {
         let page = generated(alloc, &mut numbers)?;
         let characters: Vec<char> = page.chars().collect(alloc)?;
         let words = words_by_pieces(alloc, &dtd, characters.as_slice())?;
-        assert!(rt; all_say(alloc, &dtd, page.as_bytes(), words.as_slice())?);
+        assert!(rt; all_say_by(alloc, &indexed, &ways, page.as_bytes(), words.as_slice())?);
         lawful = lawful.saturating_add(if words.as_slice().ends_with(b"bad ") {
             0
         } else {

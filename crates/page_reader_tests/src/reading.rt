@@ -11,10 +11,10 @@ use io_edge::MemFiles;
 use merged_reader::MergedReader;
 use page_lexer::PageLexer;
 use page_reader::PageReader;
-use page_runs::PageRunReader;
 use std::alloc::Global;
 use std::test::Fail;
 use text_base::{ByteRange, Bytes, NoMemory};
+use way_reader::{PieceWays, WayReader};
 
 /// The definition that a text spells.
 pub fn definition(alloc: Global, text: &[u8]) -> Result<Dtd, Fail> {
@@ -27,15 +27,29 @@ pub fn definition(alloc: Global, text: &[u8]) -> Result<Dtd, Fail> {
     Ok(read_dtd(alloc, &mut files, ".", "d")?)
 }
 
-/// Whether both readers and the lexer put out these tokens over a page, each as a word and a space.
+/// Whether all readers and the lexer put out these tokens over a page, each as a word and a space.
 pub fn all_say(alloc: Global, dtd: &Dtd, page: &[u8], words: &[u8]) -> Result<bool, NoMemory> {
     let indexed = IndexedDtd::new(alloc, dtd)?;
-    let plain = read_words(alloc, &PageReader { indexed: &indexed }, page)?;
-    let merged = read_words(alloc, &MergedReader { indexed: &indexed }, page)?;
-    let mut lexer = PageLexer::new(alloc, &indexed)?;
+    let ways = PieceWays::of_pages(alloc, &indexed)?;
+    all_say_by(alloc, &indexed, &ways, page, words)
+}
+
+/// The same by a definition and the ways in which its pieces begin.
+pub fn all_say_by(
+    alloc: Global,
+    indexed: &IndexedDtd<'_>,
+    ways: &PieceWays,
+    page: &[u8],
+    words: &[u8],
+) -> Result<bool, NoMemory> {
+    let plain = read_words(alloc, &PageReader { indexed }, page)?;
+    let merged = read_words(alloc, &MergedReader { indexed }, page)?;
+    let by_ways = read_words(alloc, &WayReader { ways }, page)?;
+    let mut lexer = PageLexer::new(alloc, indexed)?;
     let stepped = stepped_words(alloc, &mut lexer, page)?;
     let lexed = lexed_words(alloc, &mut lexer, page)?;
-    let readers_say = plain.as_slice() == words && merged.as_slice() == words;
+    let old_say = plain.as_slice() == words && merged.as_slice() == words;
+    let readers_say = old_say && by_ways.as_slice() == words;
     Ok(readers_say && stepped.as_slice() == words && lexed.as_slice() == words)
 }
 
@@ -76,7 +90,7 @@ fn read_words<R: ByteReader>(alloc: Global, reader: &R, page: &[u8]) -> Result<B
     Ok(words)
 }
 
-/// Whether both readers put out these tokens over a page, wherever it is cut in two: the second piece
+/// Whether all readers put out these tokens over a page, wherever it is cut in two: the second piece
 /// is read from a copy of the state behind the first.
 pub fn both_say_in_pieces(
     alloc: Global,
@@ -85,11 +99,13 @@ pub fn both_say_in_pieces(
     words: &[u8],
 ) -> Result<bool, NoMemory> {
     let indexed = IndexedDtd::new(alloc, dtd)?;
+    let ways = PieceWays::of_pages(alloc, &indexed)?;
     for cut in 0..page.len() {
         let (first, second) = (&page[..cut], &page[cut..]);
         let plain = words_of_two(alloc, &PageReader { indexed: &indexed }, first, second)?;
         let merged = words_of_two(alloc, &MergedReader { indexed: &indexed }, first, second)?;
-        if plain.as_slice() != words || merged.as_slice() != words {
+        let by_ways = words_of_two(alloc, &WayReader { ways: &ways }, first, second)?;
+        if plain.as_slice() != words || merged.as_slice() != words || by_ways.as_slice() != words {
             return Ok(false);
         }
     }
@@ -167,7 +183,8 @@ fn state_behind<R: ByteReader>(
 /// by all bytes.
 pub fn runs_and_moves(alloc: Global, dtd: &Dtd, text: &[u8]) -> Result<(usize, usize), NoMemory> {
     let indexed = IndexedDtd::new(alloc, dtd)?;
-    let reader = PageRunReader { indexed: &indexed };
+    let ways = PieceWays::of_pages(alloc, &indexed)?;
+    let reader = WayReader { ways: &ways };
     let state = state_behind(alloc, &reader, text)?;
     let runs = runs_from(&reader, &state);
     let machine = Echoing { reader };

@@ -2,7 +2,7 @@
 //! Promise: `piece_at` and `is_right` are the functions of these names in page_model (specs/Reading
 //! and specs/Right there); `tokens_of` gives what a piece is for the tree of the page, and none
 //! exactly where the definition does not allow it (`Takes` of specs/Takes).
-//! Used by loose_reader, reference_stepping, value_stepping, value_ending and others.
+//! Used by way_reader, merged_reader, form_maker, reference_stepping and others.
 #![tactic(auto)]
 
 mod attribute_parts;

@@ -2,7 +2,7 @@
 //! Promise: `page_step`, `byte_step` and `narrow_step` are, through the views of open_pieces and
 //! byte_stepping, the steps of the readers of page_steps, of character_steps over it, and of
 //! page_narrowing, at the table of a definition.
-//! Used by: loose_reader, page_reader.
+//! Used by: page_reader.
 #![tactic(auto)]
 
 mod byte_steps;

@@ -3,7 +3,7 @@
 //! what is short.
 //! Promise: the rows that a byte leaves match exactly what may follow the byte
 //! (`bytes_are_taken_in_turn`: `ByteInTurn` of specs/Laws).
-//! Used by: way_reader.
+//! Used by: way_reader, broken_readers.
 #![tactic(auto)]
 
 mod copying;

@@ -8,9 +8,11 @@ use Rattle.cfg_grammar.specs.declared.grammar.Grammar.{Grammar}
 use Rattle.derivations.specs.declared.derivation.Derivation.{Derivation}
 use Rattle.derivations.specs.Nodes.{most}
 use Rattle.dtd_model.specs.Table.{Table}
-use Rattle.echoing_machine.specs.Echoes.{EchoStep, EchoEnd}
-use Rattle.page_reader.specs.States.{first_state, tokens_at, tokens_behind}
-use Rattle.merged_reader.specs.States.{merged_next}
+use Rattle.broken_readers.specs.Laws.{WayStep, WayEnd}
+use Rattle.way_reader.specs.PageWays.{ArePageWays}
+use Rattle.way_reader.specs.Reader.{starts_at}
+use Rattle.way_reader.specs.Ways.{first_state}
+use Rattle.way_reader.specs.declared.reader.PieceWays.{PieceWays}
 use Rattle.fst_core.specs.Items.{HasItems}
 use Rattle.fst_core.specs.Outputs.{DerivesText}
 use Rattle.page_decision.specs.declared.goal.Goal.{Goal}
@@ -41,12 +43,12 @@ use Rattle.script_decision.specs.ShortestBelow.{IsCutOf}
 abbrev pub RunsFollow : Type 0
 RunsFollow = (goal : Goal) (table : Table) (program : PlainProgram) → IsLawful program → TextsFit program → EachIsGood goal table program → RunsAreGood goal table program
 
-module _ (goal : Goal) (table : Table) (program : PlainProgram) (grammar : Grammar) (is_grammar : IsPageGrammar program grammar) where
+module _ (goal : Goal) (table : Table) (program : PlainProgram) (ways : PieceWays) (are : ArePageWays table ways) (grammar : Grammar) (is_grammar : IsPageGrammar program grammar) where
   abbrev IsPage : List ℕ → Type 0
   IsPage = DerivesText grammar.productions.items (Nt grammar.start)
 
   abbrev IsImage : Grammar → Type 0
-  IsImage = IsMachineImage grammar first_state (EchoStep (merged_next table) (tokens_at table) (tokens_behind table)) (EchoEnd (merged_next table) (tokens_at table) (tokens_behind table))
+  IsImage = IsMachineImage grammar first_state (WayStep ways.arena (starts_at ways.starts)) (WayEnd ways.arena (starts_at ways.starts))
 
   page_loose : (page : List ℕ) → IsPage page → IsLoosePage program page
   page_loose page d = (texts_are_pages program grammar.productions.items grammar.start is_grammar.pages page).0 d
@@ -55,7 +57,7 @@ module _ (goal : Goal) (table : Table) (program : PlainProgram) (grammar : Gramm
   loose_page page loose = (texts_are_pages program grammar.productions.items grammar.start is_grammar.pages page).1 loose
 
   of_image : (image : Grammar) → IsImage image → IsReaderImage table program image
-  of_image image of_grammar = record { grammar = grammar; of_program = is_grammar; of_grammar = of_grammar }
+  of_image image of_grammar = (ways, are, record { grammar = grammar; of_program = is_grammar; of_grammar = of_grammar })
 
   shorter_good : (asked : Goal) (l : ℕ) → AreShorterGood table IsPage asked l → AreShorterGood table (IsLoosePage program) asked l
   shorter_good asked l all page loose less = all page (loose_page page loose) less
@@ -123,10 +125,10 @@ module _ (goal : Goal) (table : Table) (program : PlainProgram) (grammar : Gramm
   many_tags Goal.Nested count l h = tags_wider _ _ Goal.Nested count l h
 
 -- a count of items of the pages' image
-pub many_items : (table : Table) (program : PlainProgram) (grammar : Grammar) (count : ℕ) → IsPageGrammar program grammar
-    → (ITEM_LIMIT < count) × HasItems grammar.productions.items (EchoStep (merged_next table) (tokens_at table) (tokens_behind table)) grammar.start first_state count
+pub many_items : (table : Table) (program : PlainProgram) (ways : PieceWays) → ArePageWays table ways → (grammar : Grammar) (count : ℕ) → IsPageGrammar program grammar
+    → (ITEM_LIMIT < count) × HasItems grammar.productions.items (WayStep ways.arena (starts_at ways.starts)) grammar.start first_state count
     → (ITEM_LIMIT < count) × HasManyItems table program count
-many_items table program grammar count is (over, has) = (over, by_pages grammar is has)
+many_items table program ways are grammar count is (over, has) = (over, by_pages grammar is ways are has)
 
 module _ (law : RunsFollow) (goal : Goal) (table : Table) (program : PlainProgram) (lawful : IsLawful program) (fit : TextsFit program) (limit : ℕ) where
   pub says : (a : ShortestAnswer) → IsShortestAnswer goal table program limit a → SaysOfRuns goal table program a

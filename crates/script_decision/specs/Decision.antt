@@ -8,9 +8,11 @@ use Rattle.content_automata.specs.Decides.{shapes_in}
 use Rattle.content_automata.specs.Refusals.{PassLimit}
 use Rattle.page_decision.specs.declared.goal.Goal.{Goal}
 use Rattle.page_decision.specs.PageVerdicts.{HasManyPairs, HasManyOpenTags}
-use Rattle.echoing_machine.specs.Echoes.{EchoStep, EchoEnd}
-use Rattle.page_reader.specs.States.{first_state, tokens_at, tokens_behind}
-use Rattle.merged_reader.specs.States.{merged_next}
+use Rattle.broken_readers.specs.Laws.{WayStep, WayEnd}
+use Rattle.way_reader.specs.PageWays.{ArePageWays}
+use Rattle.way_reader.specs.Reader.{starts_at}
+use Rattle.way_reader.specs.Ways.{first_state}
+use Rattle.way_reader.specs.declared.reader.PieceWays.{PieceWays}
 use Rattle.script_decision.specs.declared.answer.Answer.{Answer}
 use Rattle.loose_grammar.specs.declared.refusal.TheConstants.{ITEM_LIMIT}
 use Rattle.loose_grammar.specs.Pages.{IsLoosePage}
@@ -21,15 +23,15 @@ use Rattle.script_decision.specs.declared.refusal.CheckRefusal.{CheckRefusal}
 use Rattle.script_decision.specs.declared.refusal.CheckRefusal.TheVariants as refusal
 
 -- an image has at least so many items: that of an operation of the program, or, behind a search for a broken page, that of its loose pages
--- under the reader of the definition's pages
+-- under the reader of the definition's pages, which goes by ways that are the definition's forms
 abbrev pub HasManyItems : Table → PlainProgram → ℕ → Type 0
-HasManyItems table program count =
-    by_machine.HasManyItems first_state (EchoStep (merged_next table) (tokens_at table) (tokens_behind table)) table program count
+HasManyItems table program count = (ways : PieceWays) × ArePageWays table ways
+    × by_machine.HasManyItems first_state (WayStep ways.arena (starts_at ways.starts)) table program count
 
--- the grammar is an image, under the reader of the definition's pages, of the grammar of loose pages that is made of the program
+-- the grammar is an image, under such a reader, of the grammar of loose pages that is made of the program
 abbrev pub IsReaderImage : Table → PlainProgram → Grammar → Type 0
-IsReaderImage table = by_machine.IsPageImage first_state (EchoStep (merged_next table) (tokens_at table) (tokens_behind table))
-    (EchoEnd (merged_next table) (tokens_at table) (tokens_behind table))
+IsReaderImage table program image = (ways : PieceWays) × ArePageWays table ways
+    × by_machine.IsPageImage first_state (WayStep ways.arena (starts_at ways.starts)) (WayEnd ways.arena (starts_at ways.starts)) program image
 
 -- yes: each loose page is good; no: a derivation of one that is not; a stated count that is passed, behind a search for a broken page: of
 -- sums of the sentences of a nonterminal, of unmatched tags, of items

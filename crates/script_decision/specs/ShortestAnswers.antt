@@ -4,9 +4,11 @@ use Rattle.cfg_grammar.specs.declared.grammar.Grammar.{Grammar}
 use Rattle.derivations.specs.Nodes.{most}
 use Rattle.dtd_model.specs.Table.{Table}
 use Rattle.fst_core.specs.Items.{HasItems}
-use Rattle.echoing_machine.specs.Echoes.{EchoStep}
-use Rattle.page_reader.specs.States.{first_state, tokens_at, tokens_behind}
-use Rattle.merged_reader.specs.States.{merged_next}
+use Rattle.broken_readers.specs.Laws.{WayStep}
+use Rattle.way_reader.specs.PageWays.{ArePageWays}
+use Rattle.way_reader.specs.Reader.{starts_at}
+use Rattle.way_reader.specs.Ways.{first_state}
+use Rattle.way_reader.specs.declared.reader.PieceWays.{PieceWays}
 use Rattle.page_decision.specs.declared.goal.Goal.{Goal}
 use Rattle.page_decision.specs.Goals.{IsGood}
 use Rattle.script_meaning.specs.Programs.{PlainProgram}
@@ -31,11 +33,11 @@ pub record IsShownShortest (goal : Goal) (table : Table) (program : PlainProgram
   pub shortest : (other : List ℕ) → IsLoosePage program other → length other < length page → length other < most → IsGood goal table other
 
 -- one image has at least so many items: that of an operation of the system that is made of the program, or that of the grammar of loose
--- pages that is made of it, under the reader of the definition's pages
+-- pages that is made of it, under the reader of the definition's pages, which goes by ways that are the definition's forms
 pub data HasManyItems (table : Table) (program : PlainProgram) (count : ℕ) : Type 0 where
   by_operation : HasLargeImage program count → HasManyItems table program count
-  by_pages : (grammar : Grammar) → IsPageGrammar program grammar
-      → HasItems grammar.productions.items (EchoStep (merged_next table) (tokens_at table) (tokens_behind table)) grammar.start first_state count
+  by_pages : (grammar : Grammar) → IsPageGrammar program grammar → (ways : PieceWays) → ArePageWays table ways
+      → HasItems grammar.productions.items (WayStep ways.arena (starts_at ways.starts)) grammar.start first_state count
       → HasManyItems table program count
 
 -- each loose page is good; what is shown of a shortest one that is not; a stated count that is passed: of sums of the sentences of a

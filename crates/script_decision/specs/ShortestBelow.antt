@@ -3,9 +3,10 @@ use Rattle.std.specs.Prelude.{◌≤◌, ◌↔◌, ℕ, List, length, ⊤}
 use Rattle.cfg_grammar.specs.declared.symbol.Symbol.TheVariants.{Nt}
 use Rattle.cfg_grammar.specs.declared.grammar.Grammar.{Grammar}
 use Rattle.dtd_model.specs.Table.{Table}
-use Rattle.echoing_machine.specs.Echoes.{EchoStep, EchoEnd}
-use Rattle.page_reader.specs.States.{first_state, tokens_at, tokens_behind}
-use Rattle.merged_reader.specs.States.{merged_next}
+use Rattle.broken_readers.specs.Laws.{WayStep, WayEnd}
+use Rattle.way_reader.specs.Reader.{starts_at}
+use Rattle.way_reader.specs.Ways.{first_state}
+use Rattle.way_reader.specs.declared.reader.PieceWays.{PieceWays}
 use Rattle.fst_core.specs.Outputs.{DerivesText}
 use Rattle.page_decision.specs.declared.goal.Goal.{Goal}
 use Rattle.page_decision.specs.Goals.{IsGood}
@@ -19,12 +20,11 @@ use Rattle.script_decision.specs.ShortestAnswers.{IsShownShortest}
 use Rattle.script_decision.specs.declared.shortest_below.Below.{Below}
 use Rattle.script_decision.specs.declared.shortest_below.Below.TheVariants.{Good, Bad, Open}
 
--- what is found of the pages of a grammar, by the reader of the definition's pages
-abbrev pub IsFound : Goal → Table → Grammar → ℕ → ShortAnswer → Type 0
-IsFound goal table grammar limit found =
+-- what is found of the pages of a grammar, by the reader of these ways
+abbrev pub IsFound : Goal → Table → PieceWays → Grammar → ℕ → ShortAnswer → Type 0
+IsFound goal table ways grammar limit found =
     IsShortPageAnswer table (DerivesText grammar.productions.items (Nt grammar.start))
-    (IsMachineImage grammar first_state (EchoStep (merged_next table) (tokens_at table) (tokens_behind table))
-    (EchoEnd (merged_next table) (tokens_at table) (tokens_behind table)))
+    (IsMachineImage grammar first_state (WayStep ways.arena (starts_at ways.starts)) (WayEnd ways.arena (starts_at ways.starts)))
     (IsDerivationOf grammar) goal limit found
 
 -- the one grammar derives the texts of at most so many bytes that the other derives

@@ -3,19 +3,42 @@
 ghost use Rattle.std.specs.Prelude.{IfOk, IfErr};
 ghost use Rattle.dtd_model.specs.TableOf.{table_of};
 ghost use Rattle.program_rules.specs.View.{program_of};
+ghost use Rattle.way_reader.specs.PageWays.{ArePageWays};
 ghost use Rattle.script_decision.specs.Answers.{SaysOfRuns};
 ghost use Rattle.script_decision.specs.Decision.{IsAnswerOf, IsCheckRefusal};
 
 use crate::Answer;
+use crate::reader::PageWays;
 use crate::reading::check_by;
 use crate::refusal::CheckRefusal;
 use dtd_index::IndexedDtd;
 use dtd_model::Dtd;
-use merged_reader::laws::reads_pages;
 use page_decision::Goal;
-use page_runs::PageRunReader;
 use program_rules::Program;
 use std::alloc::Global;
+use way_reader::{PieceWays, WayReader, pages_are_read, whole_forms_have_texts};
+
+/// The answer by the ways of a definition's pages.
+fn check_ways(
+    alloc: Global,
+    program: &Program,
+    pages: &PageWays<'_>,
+    goal: Goal,
+    pairs: u64,
+) -> Result<Answer, CheckRefusal>
+    requires { ArePageWays (table_of pages.now.dtd.now) pages.now.ways.now }
+    ensures answer { IfOk result
+        (IsAnswerOf goal (table_of pages.now.dtd.now) (program_of program.now) pairs) }
+    ensures sound { IfOk result
+        (SaysOfRuns goal (table_of pages.now.dtd.now) (program_of program.now)) }
+    ensures refusal { IfErr result
+        (IsCheckRefusal (table_of pages.now.dtd.now) (program_of program.now)) }
+{
+    whole_forms_have_texts();
+    pages_are_read();
+    let reader = WayReader { ways: pages.ways };
+    check_by(alloc, program, pages.dtd, goal, reader, pairs)
+}
 
 /// The answer by the definition of an index.
 fn check_indexed(
@@ -32,9 +55,12 @@ fn check_indexed(
     ensures refusal { IfErr result
         (IsCheckRefusal (table_of indexed.now.dtd.now) (program_of program.now)) }
 {
-    reads_pages(indexed.dtd);
-    let reader = PageRunReader { indexed };
-    check_by(alloc, program, indexed.dtd, goal, reader, pairs)
+    let ways = PieceWays::of_pages(alloc, indexed)?;
+    let pages = PageWays {
+        dtd: indexed.dtd,
+        ways: &ways,
+    };
+    check_ways(alloc, program, &pages, goal, pairs)
 }
 
 /// Whether each loose page of the program is good by the goal and the definition, with at most

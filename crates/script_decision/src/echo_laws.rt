@@ -2,13 +2,19 @@
 
 ghost use Rattle.dtd_model.specs.TableOf.{table_of};
 ghost use Rattle.script_decision.specs.EchoLaws.{IsMachineOf};
+ghost use Rattle.way_reader.specs.PageWays.{ArePageWays};
 
-use page_runs::PageRunReader;
+use dtd_model::Dtd;
+use way_reader::{PieceWays, WayReader, pages_are_read, whole_forms_have_texts};
 
-/// By each definition the echoing machine of its reader is a machine that reads pages.
-pub fn is_page_machine(reader: &PageRunReader<'_>)
-    ensures { IsMachineOf (table_of reader.now.indexed.now.dtd.now) }
+/// By each definition the echoing machine of the reader by the ways of its pages is a machine that
+/// reads pages.
+pub fn is_page_machine(dtd: &Dtd, ways: &PieceWays)
+    requires { ArePageWays (table_of dtd.now) ways.now }
+    ensures { IsMachineOf (table_of dtd.now) ways.now }
 {
-    merged_reader::laws::reads_pages(reader.indexed.dtd);
-    page_decision::echo_laws::echo_is_page_machine(reader.indexed.dtd, reader);
+    whole_forms_have_texts();
+    pages_are_read();
+    let reader = WayReader { ways };
+    page_decision::echo_laws::echo_is_page_machine(dtd, &reader);
 }

@@ -18,6 +18,7 @@ mod policy_answer;
 mod policy_deciding;
 pub mod policy_laws;
 mod policy_refusal;
+mod reader;
 mod reading;
 mod refusal;
 mod shortest_answer;

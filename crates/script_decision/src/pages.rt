@@ -6,7 +6,9 @@ ghost use Rattle.broken_search.specs.Found.{IsSearchCause};
 ghost use Rattle.dtd_model.specs.TableOf.{table_of};
 ghost use Rattle.fst_core.specs.Outputs.{DerivesText};
 ghost use Rattle.grammar_image.specs.Refusals.{IsCause};
-ghost use Rattle.broken_pages.specs.Coarse.{is_broken};
+ghost use Rattle.broken_readers.specs.Laws.{IsCoarselyBroken};
+ghost use Rattle.broken_readers.specs.Starts.{AreCoarseWays};
+ghost use Rattle.way_reader.specs.Reader.{starts_at};
 ghost use Rattle.page_decision.specs.Echoes.{IsMachineImage};
 ghost use Rattle.page_decision.specs.Machines.{IsPageMachine};
 ghost use Rattle.page_decision.specs.PageSums.{AreSumsOf};
@@ -16,27 +18,56 @@ ghost use Rattle.page_decision.specs.declared.goal.Goal as goals;
 ghost use Rattle.script_decision.specs.Searches.{NoneIsBroken, IsSearchedIn};
 ghost use Rattle.script_decision.specs.Steps.{is_settled};
 
+use broken_readers::coarse_ways;
+use broken_readers::laws::{
+    broken_is_not_good, coarse_finds_broken, coarse_misses_none, coarse_tells_broken,
+};
 use broken_search::find_broken_page;
 use cfg_grammar::Grammar;
-use coarse_reader::CoarseReader;
-use coarse_reader::laws::finds_broken;
 use derivations::Derivation;
 use dtd_model::Dtd;
 use echoing_machine::Echoing;
 use fst_core::Machine;
 use grammar_image::ImageRefusal;
 use loose_grammar::ITEM_LIMIT;
-use loose_machine::laws::broken_is_not_good;
-use page_decision::{Goal, PageSums, decide_pages, find_broken};
+use page_decision::{Goal, PageSums, decide_pages, find_broken, texts_fit};
 use std::alloc::Global;
 use summary_decision::Verdict;
+use way_reader::{PieceWays, WayReader, whole_forms_have_texts};
 
-/// The most different sums of the sentences of a nonterminal by the tokens of the coarse reader: a
-/// sentence has a bad token or none.
+/// The most different sums of the sentences of a nonterminal by the tokens of the reader of coarse
+/// pieces: a sentence has a bad token or none.
 const COARSE_SUMS: u64 = 2;
 
-/// A derivation of a page that is broken for the coarse reader, and so good by no goal. None comes
-/// only where no page is.
+/// The same by the ways in which coarse pieces begin.
+fn find_by_ways(
+    alloc: Global,
+    grammar: &Grammar,
+    dtd: &Dtd,
+    goal: Goal,
+    ways: &PieceWays,
+) -> Result<Option<Derivation>, ImageRefusal>
+    requires { AreCoarseWays ways.now.arena (starts_at ways.now.starts) }
+    ensures found { IfOk result (λ found. IfSome found (IsBadPage (table_of dtd.now)
+        (DerivesText grammar.now.productions.items (symbols.Symbol.Nt grammar.now.start))
+        (IsDerivationOf grammar.now) goal)) }
+    ensures none { IfOk result (λ found. IfNone found ((page : List ℕ)
+        → DerivesText grammar.now.productions.items (symbols.Symbol.Nt grammar.now.start) page
+        → IsCoarselyBroken page → ⊥)) }
+{
+    whole_forms_have_texts();
+    coarse_tells_broken();
+    coarse_misses_none();
+    coarse_finds_broken();
+    texts_fit(grammar);
+    let machine = Echoing {
+        reader: WayReader { ways },
+    };
+    find_broken(alloc, grammar, dtd, goal, &machine, ITEM_LIMIT, COARSE_SUMS)
+}
+
+/// A derivation of a page that is broken whatever the definition, and so good by no goal. None comes
+/// only where no page is coarsely broken.
 fn find_coarsely(
     alloc: Global,
     grammar: &Grammar,
@@ -48,13 +79,10 @@ fn find_coarsely(
         (IsDerivationOf grammar.now) goal)) }
     ensures none { IfOk result (λ found. IfNone found ((page : List ℕ)
         → DerivesText grammar.now.productions.items (symbols.Symbol.Nt grammar.now.start) page
-        → is_broken page ≡ false)) }
+        → IsCoarselyBroken page → ⊥)) }
 {
-    finds_broken();
-    let machine = Echoing {
-        reader: CoarseReader,
-    };
-    find_broken(alloc, grammar, dtd, goal, &machine, ITEM_LIMIT, COARSE_SUMS)
+    let ways = coarse_ways(alloc)?;
+    find_by_ways(alloc, grammar, dtd, goal, &ways)
 }
 
 /// Whether the pages are decided, or there was no memory for it.

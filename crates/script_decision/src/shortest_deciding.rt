@@ -4,21 +4,25 @@ ghost use Rattle.std.specs.Prelude.{ℕ, IfOk, IfErr};
 ghost use Rattle.cfg_grammar.specs.declared.grammar.Grammar as grammars;
 ghost use Rattle.dtd_model.specs.Table.{Table};
 ghost use Rattle.dtd_model.specs.TableOf.{table_of};
-ghost use Rattle.echoing_machine.specs.Echoes.{EchoStep};
+ghost use Rattle.broken_readers.specs.Laws.{WayStep};
 ghost use Rattle.flow_runs.specs.Texts.{TextsFit};
 ghost use Rattle.grammar_image.specs.Refusals.{IsCause};
 ghost use Rattle.loose_grammar.specs.Pages.{IsPageGrammar};
-ghost use Rattle.merged_reader.specs.States.{merged_next};
 ghost use Rattle.page_decision.specs.PageSums.{AreSumsOf};
 ghost use Rattle.page_decision.specs.declared.goal.Goal as goals;
-ghost use Rattle.page_reader.specs.States.{first_state, tokens_at, tokens_behind};
 ghost use Rattle.program_rules.specs.View.{program_of};
 ghost use Rattle.script_decision.specs.Decision.{IsCheckRefusal};
 ghost use Rattle.script_meaning.specs.Programs.{PlainProgram};
 ghost use Rattle.script_decision.specs.ShortestAnswers.{IsShortestAnswer, SaysOfRuns};
 ghost use Rattle.script_decision.specs.ShortestBelow.{IsFound};
+ghost use Rattle.way_reader.specs.PageWays.{ArePageWays};
+ghost use Rattle.way_reader.specs.Reader.{starts_at};
+ghost use Rattle.way_reader.specs.Ways.{first_state};
+ghost use Rattle.way_reader.specs.declared.reader.PieceWays as declared;
 
+use crate::echo_laws::is_page_machine;
 use crate::laws::good_loose_pages_make_good_runs;
+use crate::reader::PageWays;
 use crate::refusal::CheckRefusal;
 use crate::shortest_answer::ShortestAnswer;
 use crate::showing_pages::show_page;
@@ -29,20 +33,18 @@ use dtd_model::Dtd;
 use echoing_machine::Echoing;
 use grammar_image::ImageRefusal;
 use loose_grammar::{GrammarRefusal, ITEM_LIMIT, loose_grammar};
-use merged_reader::laws::reads_pages;
-use page_decision::echo_laws::echo_is_page_machine;
 use page_decision::{Goal, PageSums, sums_of};
-use page_runs::PageRunReader;
 use program_rules::Program;
 use short_page::{ShortAnswer, shortest_page};
 use std::alloc::Global;
 use text_base::NoMemory;
+use way_reader::{PieceWays, WayReader};
 
 /// What was found of the pages of a grammar, as it is shown.
 fn show(alloc: Global, found: ShortAnswer) -> Result<ShortestAnswer, NoMemory>
     ensures { IfOk result (λ answer. (goal : goals.Goal) (table : Table) (program : PlainProgram)
-        (grammar : grammars.Grammar) (limit : ℕ) → IsPageGrammar program grammar
-        → IsFound goal table grammar limit found
+        (ways : declared.PieceWays) (grammar : grammars.Grammar) (limit : ℕ) → ArePageWays table ways
+        → IsPageGrammar program grammar → IsFound goal table ways grammar limit found
         → IsShortestAnswer goal table program limit answer) }
 {
     Ok(match found {
@@ -57,28 +59,28 @@ fn show(alloc: Global, found: ShortAnswer) -> Result<ShortestAnswer, NoMemory>
 pub(crate) fn found_in(
     alloc: Global,
     grammar: &Grammar,
-    indexed: &IndexedDtd,
+    pages: &PageWays<'_>,
     goal: Goal,
     sums: &PageSums,
     items: u64,
     pairs: u64,
 ) -> Result<ShortAnswer, ImageRefusal>
-    requires { AreSumsOf goal (table_of indexed.now.dtd.now) sums.now }
+    requires ways { ArePageWays (table_of pages.now.dtd.now) pages.now.ways.now }
+    requires sums { AreSumsOf goal (table_of pages.now.dtd.now) sums.now }
     ensures answer { IfOk result
-        (IsFound goal (table_of indexed.now.dtd.now) grammar.now pairs) }
+        (IsFound goal (table_of pages.now.dtd.now) pages.now.ways.now grammar.now pairs) }
     ensures cause { IfErr result (IsCause grammar.now.productions.items
-        (EchoStep (merged_next (table_of indexed.now.dtd.now))
-        (tokens_at (table_of indexed.now.dtd.now)) (tokens_behind (table_of indexed.now.dtd.now)))
+        (WayStep pages.now.ways.now.arena (starts_at pages.now.ways.now.starts))
         grammar.now.start first_state items) }
 {
-    reads_pages(indexed.dtd);
-    let reader = PageRunReader { indexed };
-    echo_is_page_machine(indexed.dtd, &reader);
-    let machine = Echoing { reader };
+    is_page_machine(pages.dtd, pages.ways);
+    let machine = Echoing {
+        reader: WayReader { ways: pages.ways },
+    };
     shortest_page(
         alloc,
         grammar,
-        indexed.dtd,
+        pages.dtd,
         goal,
         &machine,
         sums,
@@ -92,22 +94,23 @@ fn decide_pages(
     alloc: Global,
     program: &Program,
     grammar: &Grammar,
-    indexed: &IndexedDtd,
+    pages: &PageWays<'_>,
     goal: Goal,
     sums: &PageSums,
     pairs: u64,
 ) -> Result<ShortestAnswer, NoMemory>
     requires grammar { IsPageGrammar (program_of program.now) grammar.now }
     requires texts { TextsFit (program_of program.now) }
-    requires sums { AreSumsOf goal (table_of indexed.now.dtd.now) sums.now }
+    requires ways { ArePageWays (table_of pages.now.dtd.now) pages.now.ways.now }
+    requires sums { AreSumsOf goal (table_of pages.now.dtd.now) sums.now }
     ensures answer { IfOk result
-        (IsShortestAnswer goal (table_of indexed.now.dtd.now) (program_of program.now) pairs) }
+        (IsShortestAnswer goal (table_of pages.now.dtd.now) (program_of program.now) pairs) }
     ensures sound { IfOk result
-        (SaysOfRuns goal (table_of indexed.now.dtd.now) (program_of program.now)) }
+        (SaysOfRuns goal (table_of pages.now.dtd.now) (program_of program.now)) }
 {
     let _ = program;
     good_loose_pages_make_good_runs();
-    match found_in(alloc, grammar, indexed, goal, sums, ITEM_LIMIT, pairs) {
+    match found_in(alloc, grammar, pages, goal, sums, ITEM_LIMIT, pairs) {
         Ok(found) => show(alloc, found),
         Err(ImageRefusal::Large { items }) => Ok(ShortestAnswer::Items { count: items }),
         Err(ImageRefusal::Memory) => Err(NoMemory),
@@ -131,8 +134,13 @@ fn decide_program(
     ensures refusal { IfErr result
         (IsCheckRefusal (table_of indexed.now.dtd.now) (program_of program.now)) }
 {
+    let ways = PieceWays::of_pages(alloc, indexed)?;
+    let pages = PageWays {
+        dtd: indexed.dtd,
+        ways: &ways,
+    };
     match loose_grammar(alloc, program) {
-        Ok(made) => match decide_pages(alloc, program, &made.grammar, indexed, goal, sums, pairs) {
+        Ok(made) => match decide_pages(alloc, program, &made.grammar, &pages, goal, sums, pairs) {
             Ok(answer) => Ok(answer),
             Err(_) => Err(CheckRefusal::Memory),
         },

@@ -11,7 +11,10 @@ ghost use Rattle.program_rules.specs.View.{program_of};
 ghost use Rattle.script_decision.specs.Decision.{IsCheckRefusal};
 ghost use Rattle.script_meaning.specs.Programs.{PlainProgram};
 ghost use Rattle.script_decision.specs.ShortestBelow.{IsBelow, IsCutOf, IsFound};
+ghost use Rattle.way_reader.specs.PageWays.{ArePageWays};
+ghost use Rattle.way_reader.specs.declared.reader.PieceWays as declared;
 
+use crate::reader::PageWays;
 use crate::refusal::CheckRefusal;
 use crate::shortest_below::Below;
 use crate::shortest_deciding::found_in;
@@ -28,6 +31,7 @@ use program_rules::Program;
 use short_page::ShortAnswer;
 use std::alloc::Global;
 use text_base::NoMemory;
+use way_reader::PieceWays;
 
 /// The most items of an image with which shorter pages are looked for.
 const SHORT_ITEMS: u64 = 1_000_000;
@@ -35,8 +39,9 @@ const SHORT_ITEMS: u64 = 1_000_000;
 /// What was found of pages of at most so many bytes, as it is shown.
 fn show_below(alloc: Global, found: ShortAnswer) -> Result<Below, NoMemory>
     ensures { IfOk result (λ below. (goal : goals.Goal) (table : Table) (program : PlainProgram)
-        (grammar cut : grammars.Grammar) (most limit : ℕ) → IsPageGrammar program grammar
-        → IsCutOf grammar most cut → IsFound goal table cut limit found
+        (ways : declared.PieceWays) (grammar cut : grammars.Grammar) (most limit : ℕ)
+        → ArePageWays table ways → IsPageGrammar program grammar → IsCutOf grammar most cut
+        → IsFound goal table ways cut limit found
         → IsBelow goal table program most below) }
 {
     Ok(match found {
@@ -51,17 +56,18 @@ fn show_below(alloc: Global, found: ShortAnswer) -> Result<Below, NoMemory>
 fn cut_below(
     alloc: Global,
     cut: &Grammar,
-    indexed: &IndexedDtd,
+    pages: &PageWays<'_>,
     goal: Goal,
     sums: &PageSums,
     pairs: u64,
 ) -> Result<Below, NoMemory>
-    requires { AreSumsOf goal (table_of indexed.now.dtd.now) sums.now }
+    requires ways { ArePageWays (table_of pages.now.dtd.now) pages.now.ways.now }
+    requires sums { AreSumsOf goal (table_of pages.now.dtd.now) sums.now }
     ensures { IfOk result (λ below. (program : PlainProgram) (grammar : grammars.Grammar) (most : ℕ)
         → IsPageGrammar program grammar → IsCutOf grammar most cut.now
-        → IsBelow goal (table_of indexed.now.dtd.now) program most below) }
+        → IsBelow goal (table_of pages.now.dtd.now) program most below) }
 {
-    match found_in(alloc, cut, indexed, goal, sums, SHORT_ITEMS, pairs) {
+    match found_in(alloc, cut, pages, goal, sums, SHORT_ITEMS, pairs) {
         Ok(found) => show_below(alloc, found),
         Err(ImageRefusal::Large { .. }) => Ok(Below::Open),
         Err(ImageRefusal::Memory) => Err(NoMemory),
@@ -72,18 +78,19 @@ fn cut_below(
 fn grammar_below(
     alloc: Global,
     grammar: &Grammar,
-    indexed: &IndexedDtd,
+    pages: &PageWays<'_>,
     goal: Goal,
     sums: &PageSums,
     pairs: u64,
     most: u64,
 ) -> Result<Below, NoMemory>
-    requires { AreSumsOf goal (table_of indexed.now.dtd.now) sums.now }
+    requires ways { ArePageWays (table_of pages.now.dtd.now) pages.now.ways.now }
+    requires sums { AreSumsOf goal (table_of pages.now.dtd.now) sums.now }
     ensures { IfOk result (λ below. (program : PlainProgram) → IsPageGrammar program grammar.now
-        → IsBelow goal (table_of indexed.now.dtd.now) program most below) }
+        → IsBelow goal (table_of pages.now.dtd.now) program most below) }
 {
     match cut(alloc, grammar, most, SHORT_ITEMS) {
-        Ok(cut) => cut_below(alloc, &cut, indexed, goal, sums, pairs),
+        Ok(cut) => cut_below(alloc, &cut, pages, goal, sums, pairs),
         Err(ImageRefusal::Large { .. }) => Ok(Below::Open),
         Err(ImageRefusal::Memory) => Err(NoMemory),
     }
@@ -94,19 +101,20 @@ fn grammar_below(
 fn steps_below(
     alloc: Global,
     grammar: &Grammar,
-    indexed: &IndexedDtd,
+    pages: &PageWays<'_>,
     goal: Goal,
     sums: &PageSums,
     pairs: u64,
     most: u64,
 ) -> Result<Below, NoMemory>
-    requires { AreSumsOf goal (table_of indexed.now.dtd.now) sums.now }
+    requires ways { ArePageWays (table_of pages.now.dtd.now) pages.now.ways.now }
+    requires sums { AreSumsOf goal (table_of pages.now.dtd.now) sums.now }
     ensures { IfOk result (λ below. (program : PlainProgram) → IsPageGrammar program grammar.now
-        → IsBelow goal (table_of indexed.now.dtd.now) program most below) }
+        → IsBelow goal (table_of pages.now.dtd.now) program most below) }
 {
-    match grammar_below(alloc, grammar, indexed, goal, sums, pairs, most - most / 32) {
+    match grammar_below(alloc, grammar, pages, goal, sums, pairs, most - most / 32) {
         Ok(Below::Bad(page)) => Ok(Below::Bad(page)),
-        Ok(_) => grammar_below(alloc, grammar, indexed, goal, sums, pairs, most),
+        Ok(_) => grammar_below(alloc, grammar, pages, goal, sums, pairs, most),
         Err(NoMemory) => Err(NoMemory),
     }
 }
@@ -127,8 +135,13 @@ fn program_below(
     ensures refusal { IfErr result
         (IsCheckRefusal (table_of indexed.now.dtd.now) (program_of program.now)) }
 {
+    let ways = PieceWays::of_pages(alloc, indexed)?;
+    let pages = PageWays {
+        dtd: indexed.dtd,
+        ways: &ways,
+    };
     match loose_grammar(alloc, program) {
-        Ok(made) => match steps_below(alloc, &made.grammar, indexed, goal, sums, pairs, most) {
+        Ok(made) => match steps_below(alloc, &made.grammar, &pages, goal, sums, pairs, most) {
             Ok(below) => Ok(below),
             Err(_) => Err(CheckRefusal::Memory),
         },

@@ -1,5 +1,5 @@
 //! The state of a page reader in memory that stands for each state of the definition (`coded_held`
 //! of specs/Codes): the way back from the views of open_pieces. Promise: both stand for one another
 //! (`plain_coded_held` and `coded_plain_held` of proofs/OneToOne). No code stands here.
-//! Used by: loose_reader, page_reader, merged_reader, reader_fronts, page_runs, loose_machine.
+//! Used by: page_reader, merged_reader, reader_fronts.
 #![tactic(auto)]

@@ -2,7 +2,7 @@
 //! of pages fails as soon as none can. Promise: `passes` is, through `plain_held` of open_pieces,
 //! the function of the same name in page_narrowing (specs/Passing there), which is `can_end` of
 //! page_endings, at the table of a definition.
-//! Used by: loose_reader, page_stepping.
+//! Used by: page_stepping.
 #![tactic(auto)]
 
 mod attributes;

@@ -2,7 +2,7 @@
 //! `decide` says `Yes` only where every sentence of the start is whole, `No` only with a derivation
 //! of one that is not, and `Pairs` or `Tags` only where that limit is passed with every sentence of
 //! a smaller height whole (`IsVerdict` of specs/Verdicts).
-//! Used by script_decision, page_decision, echoing_machine, coarse_reader and others.
+//! Used by echoing_machine, page_decision, short_sentences, broken_readers and others.
 #![tactic(auto)]
 
 mod adding;

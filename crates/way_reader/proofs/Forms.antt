@@ -6,7 +6,7 @@ use Rattle.derivatives.specs.Standing.{expr_at}
 use Rattle.derivatives.specs.declared.arena.Arena.{Arena}
 use Rattle.derivatives.proofs.NormalForms.{ends_there}
 use Rattle.page_model.specs.Places.{Place}
-use Rattle.page_forms.specs.Forms.{Form, forms, IsOfOne}
+use Rattle.page_forms.specs.Forms.{Form, IsOfOne}
 use Rattle.partial_derivatives.specs.declared.part.Part.{Part}
 use Rattle.partial_derivatives.specs.declared.part.Part.TheVariants.{Whole}
 use Rattle.partial_derivatives.specs.Parts.{InTurn, all_over, goes_on}
@@ -46,7 +46,7 @@ made a (way ∷ ways) (f ∷ fs) h w t p (inl m) = inl (
 made a (way ∷ ways) (f ∷ fs) h w t p (inr k) = inr (made a ways fs h.1 w t p k)
 
 pub whole_forms : WholeFormsHaveTexts
-whole_forms table a starts h place w t p = (
-  λ k. shown a (starts place) (forms table place) (h place) w t p k,
-  λ k. made a (starts place) (forms table place) (h place) w t p k,
+whole_forms fs a starts h place w t p = (
+  λ k. shown a (starts place) (fs place) (h place) w t p k,
+  λ k. made a (starts place) (fs place) (h place) w t p k,
 )

@@ -108,8 +108,8 @@ alone_first l a starts f place u v t s p q k m =
     let o = f.alone place x.0 y.0 v x.1 y.1 (ap (λ (z : List ℕ). z ++ v) x.2 ∙ sym y.2) in
     record {
       ends_there = o.0;
-      tokens = sym x.3 ∙ ap l.tokens o.1 ∙ y.3;
-      place = sym x.4 ∙ ap (l.after place) o.1 ∙ y.4;
+      tokens = sym x.3 ∙ o.1 ∙ y.3;
+      place = sym x.4 ∙ o.2 ∙ y.4;
     }
 
 -- Each piece is read to its end.

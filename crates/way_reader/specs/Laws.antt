@@ -31,17 +31,23 @@ IsOfSome a (way ∷ ways) w tokens to = IsOfWay a way w tokens to ⊎ IsOfSome a
 abbrev pub IsOfPiece : {Q : Type 0} → Language Place Q PageToken → Place → List ℕ → List PageToken → Place → Type 0
 IsOfPiece {Q} l place w tokens to = (q : Q) × l.Lawful place q × (l.spell q ≡ w) × (l.tokens q ≡ tokens) × (l.after place q ≡ to)
 
--- the ways in which pieces begin have the texts of the lawful pieces there, each piece has some symbol, and none goes on where another ends
+-- the ways in which pieces begin have the texts of the lawful pieces there, each piece has some symbol, none goes on where another ends, and
+-- of one text there is one outcome
 pub record HavePieces {Q : Type 0} (l : Language Place Q PageToken) (a : Arena) (starts : Place → List Way) : Type 0 where
   pub texts : (place : Place) (w : List ℕ) (tokens : List PageToken) (to : Place)
       → IsOfSome a (starts place) w tokens to ↔ IsOfPiece l place w tokens to
   pub filled : (place : Place) (q : Q) → l.Lawful place q → l.spell q ≡ [] → ⊥
-  pub alone : (place : Place) (q r : Q) (v : List ℕ) → l.Lawful place q → l.Lawful place r → l.spell q ++ v ≡ l.spell r → (v ≡ []) × (q ≡ r)
+  pub alone : (place : Place) (q r : Q) (v : List ℕ) → l.Lawful place q → l.Lawful place r → l.spell q ++ v ≡ l.spell r
+      → (v ≡ []) × (l.tokens q ≡ l.tokens r) × (l.after place q ≡ l.after place r)
+
+-- the ways in which pieces begin have the texts of these forms
+abbrev pub HaveTexts : (Place → List Form) → Arena → (Place → List Way) → Type 0
+HaveTexts fs a starts = (place : Place) (w : List ℕ) (tokens : List PageToken) (to : Place)
+    → IsOfSome a (starts place) w tokens to ↔ IsOfOne (fs place) w tokens to
 
 -- the ways in which pieces of a page begin have the texts of the forms there
 abbrev pub HaveForms : Table → Arena → (Place → List Way) → Type 0
-HaveForms table a starts = (place : Place) (w : List ℕ) (tokens : List PageToken) (to : Place)
-    → IsOfSome a (starts place) w tokens to ↔ IsOfOne (forms table place) w tokens to
+HaveForms table a starts = HaveTexts (forms table) a starts
 
 -- the way is the form as a whole
 pub record IsWhole (a : Arena) (way : Way) (f : Form) : Type 0 where
@@ -60,9 +66,9 @@ AreWhole a (way ∷ ways) (f ∷ fs) = IsWhole a way f × AreWhole a ways fs
 
 -- ways that are the forms as a whole have their texts
 abbrev pub WholeFormsHaveTexts : Type 0
-WholeFormsHaveTexts = (table : Table) (a : Arena) (starts : Place → List Way)
-    → ((place : Place) → AreWhole a (starts place) (forms table place))
-    → HaveForms table a starts
+WholeFormsHaveTexts = (fs : Place → List Form) (a : Arena) (starts : Place → List Way)
+    → ((place : Place) → AreWhole a (starts place) (fs place))
+    → HaveTexts fs a starts
 
 -- by each lawful definition, where the ways have the texts of the forms, the reader reads the pieces of a page, and nothing else
 abbrev pub WaysAreRead : Type 0

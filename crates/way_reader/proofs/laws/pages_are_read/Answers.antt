@@ -1,4 +1,4 @@
-use Rattle.way_reader.proofs.Pages.{pages_are_read}
+use Rattle.way_reader.proofs.PagesRead.{pages_are_read}
 use Rattle.way_reader.proofs.laws.pages_are_read.Goals as goal
 
 pub returns : goal.returns

@@ -1,4 +1,4 @@
-use Rattle.way_reader.proofs.Pages.{ways_are_read}
+use Rattle.way_reader.proofs.PagesRead.{ways_are_read}
 use Rattle.way_reader.proofs.laws.ways_are_read.Goals as goal
 
 pub returns : goal.returns

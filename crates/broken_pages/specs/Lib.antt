@@ -1,4 +1,0 @@
-pub mod Coarse
-pub mod Seen
-pub mod Laws
-pub mod BrokenLaws

@@ -1,0 +1,5 @@
+pub mod Classes
+pub mod Wrapped
+pub mod Kept
+pub mod Starts
+pub mod Laws

@@ -1,2 +1,0 @@
-pub mod BrokenLemmas
-mod RunLemmas

@@ -1,4 +1,0 @@
-pub mod States
-pub mod Runs
-pub mod Exactness
-pub mod Laws

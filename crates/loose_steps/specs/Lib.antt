@@ -1,3 +1,0 @@
-pub mod TagTurns
-pub mod NumberTurns
-pub mod LooseReading

@@ -1,6 +1,0 @@
-mod Named
-mod Moving
-mod Beginning
-mod Tokens
-mod Meaningless
-mod Running

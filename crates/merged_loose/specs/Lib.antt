@@ -1,6 +1,0 @@
-pub mod Beginning
-pub mod Exactly
-pub mod Meaning
-pub mod Runs
-pub mod States
-pub mod Laws

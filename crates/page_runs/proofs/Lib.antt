@@ -1,5 +1,0 @@
-mod Encodings
-mod ClassLemmas
-mod RunLemmas
-mod Steps
-mod Moves

@@ -1,0 +1,11 @@
+-- Ways in which the pieces of a page begin.
+use Rattle.dtd_model.specs.Table.{Table}
+use Rattle.page_model.specs.Places.{Place}
+use Rattle.page_forms.specs.Forms.{forms}
+use Rattle.way_reader.specs.Laws.{AreWhole}
+use Rattle.way_reader.specs.Reader.{starts_at}
+use Rattle.way_reader.specs.declared.reader.PieceWays.{PieceWays}
+
+-- at each place they are the forms there as a whole, by the definition with this table
+abbrev pub ArePageWays : Table → PieceWays → Type 0
+ArePageWays table ways = (place : Place) → AreWhole ways.arena (starts_at ways.starts place) (forms table place)
