@@ -7,3 +7,5 @@ pub mod ByteLemmas
 pub mod TextAlongLemmas
 pub mod TextFoundLemmas
 pub mod ReaderEchoLemmas
+pub mod TokenLemmas
+pub mod RestoreLemmas

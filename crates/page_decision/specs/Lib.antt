@@ -6,4 +6,6 @@ pub mod Telling
 pub mod Echoes
 pub mod LedBack
 pub mod TextVerdicts
+pub mod TokenGrammars
+pub mod Restoring
 pub mod Readers

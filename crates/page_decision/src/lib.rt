@@ -10,11 +10,15 @@ mod deciding;
 pub mod echo_laws;
 mod goal;
 pub mod goal_laws;
+mod restoring;
 mod sums;
 mod text_deciding;
+mod token_grammar;
 
 pub use bytes::texts_fit;
 pub use deciding::{decide_pages, find_broken};
 pub use goal::Goal;
+pub use restoring::page_of;
 pub use sums::{PageSums, sums_of};
-pub use text_deciding::{decide_texts, find_wrong};
+pub use text_deciding::{decide_texts, echo, find_wrong};
+pub use token_grammar::{TokenGrammar, page_tokens_of, tokens_of};

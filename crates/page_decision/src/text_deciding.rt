@@ -22,7 +22,12 @@ use text_base::NoMemory;
 
 /// A grammar that derives the texts of another, with the tokens of the machine between their bytes,
 /// and the places of productions that it comes of.
-fn echo<M: Machine>(
+///
+/// # Errors
+///
+/// `Large` only where the image has at least so many items, over `items`. `Memory` may come at any
+/// time.
+pub fn echo<M: Machine>(
     alloc: Global,
     grammar: &Grammar,
     machine: &M,
