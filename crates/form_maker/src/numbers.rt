@@ -74,29 +74,35 @@ impl Maker {
             (making_of self.new ≡ pushed (spec.from_to (is_digit base) from.now to.now) (making_of self.old)) }
     {
         match (from, to) {
-            ([], _) => self.empty()?,
-            (_, []) => self.nothing()?,
+            ([], _) => {
+                self.empty()?;
+                Ok(())
+            }
+            ([_, ..], []) => {
+                self.nothing()?;
+                Ok(())
+            }
             ([low, lows @ ..], [high, highs @ ..]) => {
                 if value(*low) == value(*high) {
                     self.ascii(&ByteClass::Digit(base, DigitTest::EqualTo(*low)))?;
                     self.from_to(base, lows, highs)?;
                     self.chain()?;
-                } else {
-                    self.ascii(&ByteClass::Digit(base, DigitTest::EqualTo(*low)))?;
-                    self.at_least(base, lows)?;
-                    self.chain()?;
-                    self.ascii(&ByteClass::Digit(base, DigitTest::Between(*low, *high)))?;
-                    self.as_many(base, lows)?;
-                    self.chain()?;
-                    self.ascii(&ByteClass::Digit(base, DigitTest::EqualTo(*high)))?;
-                    self.at_most(base, highs)?;
-                    self.chain()?;
-                    self.either()?;
-                    self.either()?;
+                    return Ok(());
                 }
+                self.ascii(&ByteClass::Digit(base, DigitTest::EqualTo(*low)))?;
+                self.at_least(base, lows)?;
+                self.chain()?;
+                self.ascii(&ByteClass::Digit(base, DigitTest::Between(*low, *high)))?;
+                self.as_many(base, lows)?;
+                self.chain()?;
+                self.ascii(&ByteClass::Digit(base, DigitTest::EqualTo(*high)))?;
+                self.at_most(base, highs)?;
+                self.chain()?;
+                self.either()?;
+                self.either()?;
+                Ok(())
             }
         }
-        Ok(())
     }
 
     /// Numbers from the one to the other, or the last expression.
