@@ -15,9 +15,11 @@ pub on_ok : {T F : Type 0} (r : Result T F) (P Q : Type 0) → (P → Q) → OnO
 on_ok (Ok t) P Q f p = f p
 on_ok (Err e) P Q f p = tt
 
--- one that is kept at a place
-pub fetched : (e : Expr) (place : ℕ) (old new : Making) → get_or old.kept place nothing ≡ e → new ≡ pushed (get_or old.kept place nothing) old → new ≡ pushed e old
-fetched e place old new at is = is ∙ ap (λ (x : Expr). pushed x old) at
+-- what is kept at a place for this type
+pub kind_made : (entities : List (List ℕ)) (kind type : Kind) (place : ℕ) (old new : Making) → kind ≡ type → get_or old.kept place nothing ≡ value_behind entities type → new ≡ pushed (get_or old.kept place nothing) old
+    → new ≡ pushed (value_behind entities kind) old
+kind_made entities kind type place old new is at made =
+    made ∙ ap (λ (x : Expr). pushed x old) at ∙ ap (λ (k : Kind). pushed (value_behind entities k) old) (sym is)
 
 pub cdata_kept : (entities : List (List ℕ)) (old : Making) → HasShared entities old → get_or old.kept 1 nothing ≡ value_behind entities cdata
 unfolding shared

@@ -11,8 +11,8 @@ returns-in_ok-behind_equals-in-Fixed c =
     λ h.
     let rule = c.args.rule.now in
     fixed_made (table_of c.args.indexed.now.dtd.now).entities rule.name (kind_of rule.kind) c.as_slice-value.result.now (presence_of rule.need) (making_of c.args.self.now) (making_of c.fixed.new.self)
-    (making_of c.fixed-2.new.self) (making_of c.either.new.self) (making_of c.behind_equals.new.self) (ap presence_of c.in-Fixed.is ∙ ap fixed (sym c.as_slice-value.ensures)) c.in_ok-fixed-in-Fixed.ensures
-    c.in_ok-fixed-2-in-Fixed.ensures c.in_ok-either-in-Fixed.ensures c.in_ok-behind_equals-in-Fixed.ensures
+    (making_of c.fixed-in-Fixed.new.self) (making_of c.either.new.self) (making_of c.behind_equals.new.self) (ap presence_of c.in-Fixed.is ∙ ap fixed (sym c.as_slice-value.ensures)) c.in_ok-fixed-in-Fixed.ensures
+    c.in_ok-fixed-in-Fixed-2.ensures c.in_ok-either-in-Fixed.ensures c.in_ok-behind_equals-in-Fixed.ensures
 
 pub returns-in_ok-kind_behind-in-Implied : goal.returns-in_ok-kind_behind-in-Implied
 returns-in_ok-kind_behind-in-Implied c =
