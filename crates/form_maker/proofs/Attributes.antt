@@ -39,8 +39,8 @@ pub record HasMembers (entities : List (List ℕ)) (tag : List ℕ) (all left : 
   pub is : now ≡ pushed made old
   pub on : members_before entities tag left made ≡ any_order (attribute_members entities tag all)
 
-pub no_member : (entities : List (List ℕ)) (tag : List ℕ) (all : List Declared) (old now : Making) → now ≡ pushed empty old → HasMembers entities tag all all old now
-no_member entities tag all old now is = record { made = empty; is = is; on = members_are entities tag all }
+pub no_member : (entities : List (List ℕ)) (tag : List ℕ) (all left : List Declared) (old now : Making) → left ≡ all → now ≡ pushed empty old → HasMembers entities tag all left old now
+no_member entities tag all left old now same is = record { made = empty; is = is; on = ap (λ (ds : List Declared). members_before entities tag ds empty) same ∙ members_are entities tag all }
 
 -- what is kept stays
 pub still_shared : (entities : List (List ℕ)) (old now : Making) (e : Expr) → now ≡ pushed e old → HasShared entities old → HasShared entities now

@@ -111,11 +111,11 @@ pub byte_in : (test : ℕ → Bool) (bound n : ℕ) (last : Option ℕ) (wide : 
     → Changes (ranges_below test bound last) old new
 byte_in test bound n last wide old new is passes w h =
     λ e m from. h e m from
-        ∙ ap (λ (x : Expr). pushed x m) (ap (λ (k : ℕ). ranges_below test n (Some k) e) w ∙ sym (range_goes_on test n last e passes) ∙ ap (λ (k : ℕ). ranges_below test k last e) (sym is))
+    ∙ ap (λ (x : Expr). pushed x m) (ap (λ (k : ℕ). ranges_below test n (Some k) e) w ∙ sym (range_goes_on test n last e passes) ∙ ap (λ (k : ℕ). ranges_below test k last e) (sym is))
 
 -- the byte does not pass
 pub byte_out : (test : ℕ → Bool) (bound n : ℕ) (last : Option ℕ) (old mid new : Making) → bound ≡ suc n → test n ≡ false → Changes (range_before bound last) old mid → Changes (ranges_below test n None) mid new
     → Changes (ranges_below test bound last) old new
 byte_out test bound n last old mid new is passes first second =
     λ e m from. second (range_before bound last e) m (first e m from)
-        ∙ ap (λ (x : Expr). pushed x m) (ap (λ (k : ℕ). ranges_below test n None (range_before k last e)) is ∙ sym (range_ends test n last e passes) ∙ ap (λ (k : ℕ). ranges_below test k last e) (sym is))
+    ∙ ap (λ (x : Expr). pushed x m) (ap (λ (k : ℕ). ranges_below test n None (range_before k last e)) is ∙ sym (range_ends test n last e passes) ∙ ap (λ (k : ℕ). ranges_below test k last e) (sym is))

@@ -15,9 +15,11 @@ pub on_ok : {T F : Type 0} (r : Result T F) (P Q : Type 0) → (P → Q) → OnO
 on_ok (Ok t) P Q f p = f p
 on_ok (Err e) P Q f p = tt
 
--- one that is kept at a place
-pub fetched : (e : Expr) (place : ℕ) (old new : Making) → get_or old.kept place nothing ≡ e → new ≡ pushed (get_or old.kept place nothing) old → new ≡ pushed e old
-fetched e place old new at is = is ∙ ap (λ (x : Expr). pushed x old) at
+-- what is kept at a place for this type
+pub kind_made : (entities : List (List ℕ)) (kind type : Kind) (place : ℕ) (old new : Making) → kind ≡ type → get_or old.kept place nothing ≡ value_behind entities type → new ≡ pushed (get_or old.kept place nothing) old
+    → new ≡ pushed (value_behind entities kind) old
+kind_made entities kind type place old new is at made =
+    made ∙ ap (λ (x : Expr). pushed x old) at ∙ ap (λ (k : Kind). pushed (value_behind entities k) old) (sym is)
 
 pub cdata_kept : (entities : List (List ℕ)) (old : Making) → HasShared entities old → get_or old.kept 1 nothing ≡ value_behind entities cdata
 unfolding shared
@@ -52,11 +54,14 @@ unnamed : (entities : List (List ℕ)) (d : Declared) → is_name d.name ≡ fal
 unfolding attribute_form
 unnamed entities d h = sym (ap (λ (b : Bool). when b (attribute_of d.name (value_form entities d))) h)
 
-pub with_name : (entities : List (List ℕ)) (d : Declared) (old mid new : Making) → is_name d.name ≡ true → mid ≡ pushed (declared_behind entities d) old → new ≡ changed (behind_name d.name) mid → new ≡ pushed (attribute_form entities d) old
-with_name entities d old mid new h first second = second ∙ ap (changed (behind_name d.name)) first ∙ ap (λ (e : Expr). pushed e old) (named entities d h)
+pub with_name : (entities : List (List ℕ)) (d : Declared) (name : List ℕ) (old mid new : Making) → name ≡ d.name → is_name name ≡ true → mid ≡ pushed (declared_behind entities d) old → new ≡ changed (behind_name name) mid
+    → new ≡ pushed (attribute_form entities d) old
+with_name entities d name old mid new same h first second =
+    second ∙ ap (changed (behind_name name)) first ∙ ap (λ (n : List ℕ). pushed (behind_name n (declared_behind entities d)) old) same
+    ∙ ap (λ (e : Expr). pushed e old) (named entities d (sym (ap is_name same) ∙ h))
 
-pub without_name : (entities : List (List ℕ)) (d : Declared) (old new : Making) → is_name d.name ≡ false → new ≡ pushed nothing old → new ≡ pushed (attribute_form entities d) old
-without_name entities d old new h is = is ∙ ap (λ (e : Expr). pushed e old) (unnamed entities d h)
+pub without_name : (entities : List (List ℕ)) (d : Declared) (name : List ℕ) (old new : Making) → name ≡ d.name → is_name name ≡ false → new ≡ pushed nothing old → new ≡ pushed (attribute_form entities d) old
+without_name entities d name old new same h is = is ∙ ap (λ (e : Expr). pushed e old) (unnamed entities d (sym (ap is_name same) ∙ h))
 
 -- a value that is not fixed is one of its type
 abbrev pub IsPlain : Presence → Type 0

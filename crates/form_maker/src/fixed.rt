@@ -2,10 +2,12 @@
 
 ghost use Rattle.std.specs.Prelude.{◌≡◌, ◌&&◌, chars, IfOk, OnOk};
 ghost use Rattle.std.specs.List.{list_all};
+ghost use Rattle.derivatives.specs.Derivatives.{when};
 ghost use Rattle.dtd_model.specs.References.{is_reference};
 ghost use Rattle.dtd_model.specs.Table.{kind_of};
 ghost use Rattle.dtd_model.specs.TableOf.{table_of};
 ghost use Rattle.page_forms.specs.Tags as spec;
+ghost use Rattle.page_forms.specs.Words as words;
 ghost use Rattle.page_model.specs.Attributes as attributes;
 ghost use Rattle.page_model.specs.Parts as parts;
 ghost use Rattle.form_maker.specs.Kept.{fixed_form};
@@ -82,12 +84,26 @@ fn is_fixed_value(
         Err(_) => Ok(false),
         Ok(text) => {
             let cs = characters(alloc, text)?;
-            Ok(is_value_of(indexed, kind, quote, cs.as_slice()))
+            let read = cs.as_slice();
+            Ok(is_value_of(indexed, kind, quote, read))
         }
     }
 }
 
 impl Maker {
+    /// Exactly these bytes, or nothing.
+    fn word_when(&mut self, is: bool, word: &[u8]) -> Result<(), NoMemory>
+        ensures { OnOk result
+            (making_of self.new ≡ pushed (when is (words.word word.now)) (making_of self.old)) }
+    {
+        if is {
+            self.word(word)?;
+            return Ok(());
+        }
+        self.nothing()?;
+        Ok(())
+    }
+
     /// A fixed value between such quotes; nothing, where none can be.
     pub(crate) fn fixed(
         &mut self,
@@ -101,11 +117,8 @@ impl Maker {
             ≡ pushed (fixed_form (table_of indexed.now.dtd.now).entities (kind_of kind.now) wanted.now quote)
             (making_of self.old)) }
     {
-        if is_fixed_value(self.alloc, indexed, kind, quote, wanted)? {
-            self.word(wanted)?;
-        } else {
-            self.nothing()?;
-        }
+        let is = is_fixed_value(self.alloc, indexed, kind, quote, wanted)?;
+        self.word_when(is, wanted)?;
         self.quote(quote)?;
         Ok(())
     }

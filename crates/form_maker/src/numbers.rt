@@ -1,7 +1,7 @@
 //! Numbers of characters (XML 1.0, 4.1).
 
 ghost use Rattle.std.specs.Prelude.{◌≡◌, OnOk};
-ghost use Rattle.derivatives.specs.Derivatives.{either_of};
+ghost use Rattle.derivatives.specs.Derivatives.{chain_of, either_of};
 ghost use Rattle.page_forms.specs.References as spec;
 ghost use Rattle.form_maker.specs.Classes.{is_digit};
 ghost use Rattle.form_maker.specs.Words as own;
@@ -68,34 +68,69 @@ impl Maker {
         Ok(())
     }
 
+    /// A digit of the value of this one, and what writes this number or a higher one behind it.
+    fn from_lowest(&mut self, base: Base, digit: u8, rest: &[u8]) -> Result<(), NoMemory>
+        ensures { OnOk result
+            (making_of self.new
+            ≡ pushed (chain_of (spec.equal_to (is_digit base) digit) (spec.at_least (is_digit base) rest.now))
+            (making_of self.old)) }
+    {
+        self.ascii(&ByteClass::Digit(base, DigitTest::EqualTo(digit)))?;
+        self.at_least(base, rest)?;
+        self.chain()?;
+        Ok(())
+    }
+
+    /// The same with a lower number.
+    fn to_highest(&mut self, base: Base, digit: u8, rest: &[u8]) -> Result<(), NoMemory>
+        ensures { OnOk result
+            (making_of self.new
+            ≡ pushed (chain_of (spec.equal_to (is_digit base) digit) (spec.at_most (is_digit base) rest.now))
+            (making_of self.old)) }
+    {
+        self.ascii(&ByteClass::Digit(base, DigitTest::EqualTo(digit)))?;
+        self.at_most(base, rest)?;
+        self.chain()?;
+        Ok(())
+    }
+
+    /// A digit of a value between those of two, and as many digits as these behind it.
+    fn between(&mut self, base: Base, low: u8, high: u8, rest: &[u8]) -> Result<(), NoMemory>
+        ensures { OnOk result
+            (making_of self.new
+            ≡ pushed (chain_of (spec.inside (is_digit base) low high) (spec.as_many (is_digit base) rest.now))
+            (making_of self.old)) }
+    {
+        self.ascii(&ByteClass::Digit(base, DigitTest::Between(low, high)))?;
+        self.as_many(base, rest)?;
+        self.chain()?;
+        Ok(())
+    }
+
     /// Numbers from the one to the other, of as many digits as the one.
     fn from_to(&mut self, base: Base, from: &[u8], to: &[u8]) -> Result<(), NoMemory>
         ensures { OnOk result
             (making_of self.new ≡ pushed (spec.from_to (is_digit base) from.now to.now) (making_of self.old)) }
     {
-        match (from, to) {
-            ([], _) => self.empty()?,
-            (_, []) => self.nothing()?,
-            ([low, lows @ ..], [high, highs @ ..]) => {
-                if value(*low) == value(*high) {
-                    self.ascii(&ByteClass::Digit(base, DigitTest::EqualTo(*low)))?;
-                    self.from_to(base, lows, highs)?;
-                    self.chain()?;
-                } else {
-                    self.ascii(&ByteClass::Digit(base, DigitTest::EqualTo(*low)))?;
-                    self.at_least(base, lows)?;
-                    self.chain()?;
-                    self.ascii(&ByteClass::Digit(base, DigitTest::Between(*low, *high)))?;
-                    self.as_many(base, lows)?;
-                    self.chain()?;
-                    self.ascii(&ByteClass::Digit(base, DigitTest::EqualTo(*high)))?;
-                    self.at_most(base, highs)?;
-                    self.chain()?;
-                    self.either()?;
-                    self.either()?;
-                }
-            }
+        let Some((low, lows)) = from.split_first() else {
+            self.empty()?;
+            return Ok(());
+        };
+        let Some((high, highs)) = to.split_first() else {
+            self.nothing()?;
+            return Ok(());
+        };
+        if value(*low) == value(*high) {
+            self.ascii(&ByteClass::Digit(base, DigitTest::EqualTo(*low)))?;
+            self.from_to(base, lows, highs)?;
+            self.chain()?;
+            return Ok(());
         }
+        self.from_lowest(base, *low, lows)?;
+        self.between(base, *low, *high, lows)?;
+        self.to_highest(base, *high, highs)?;
+        self.either()?;
+        self.either()?;
         Ok(())
     }
 

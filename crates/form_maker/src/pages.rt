@@ -116,8 +116,9 @@ pub fn all_forms(alloc: Global, indexed: &IndexedDtd<'_>) -> Result<Made, NoMemo
         (λ made. map (expr_at made.arena) made.numbers.items
         ≡ spec.all_forms (table_of indexed.now.dtd.now)) }
 {
+    let entities = indexed.dtd.entities.as_slice();
     let mut maker = Maker::new(alloc);
-    maker.share(indexed.dtd.entities.as_slice())?;
+    maker.share(entities)?;
     maker.simple(indexed.dtd.doctype)?;
     maker.elements(indexed)?;
     Ok(maker.finish())

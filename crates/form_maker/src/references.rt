@@ -57,11 +57,7 @@ impl Maker {
         ensures { OnOk result
             (Changes (word_if passes word.now) (making_of self.old) (making_of self.new)) }
     {
-        if passes {
-            self.word_or(word)
-        } else {
-            Ok(())
-        }
+        if passes { self.word_or(word) } else { Ok(()) }
     }
 
     /// One of the words that pass a test, or the last expression.

@@ -47,9 +47,21 @@ impl Maker {
                 self.fixed(indexed, &rule.kind, value, b'"')?;
                 self.fixed(indexed, &rule.kind, value, b'\'')?;
                 self.either()?;
-                self.behind_equals()
+                self.behind_equals()?;
+                Ok(())
             }
-            Need::Implied | Need::Required | Need::Default => self.kind_behind(&rule.kind),
+            Need::Implied => {
+                self.kind_behind(&rule.kind)?;
+                Ok(())
+            }
+            Need::Required => {
+                self.kind_behind(&rule.kind)?;
+                Ok(())
+            }
+            Need::Default => {
+                self.kind_behind(&rule.kind)?;
+                Ok(())
+            }
         }
     }
 
@@ -60,12 +72,14 @@ impl Maker {
             ≡ pushed (spec.attribute_form (table_of indexed.now.dtd.now).entities (declared_of rule.now))
             (making_of self.old)) }
     {
-        if is_name(rule.name.as_slice()) {
+        let name = rule.name.as_slice();
+        if is_name(name) {
             self.value_behind(indexed, rule)?;
-            self.behind_name(rule.name.as_slice())
-        } else {
-            self.nothing()
+            self.behind_name(name)?;
+            return Ok(());
         }
+        self.nothing()?;
+        Ok(())
     }
 
     /// The attributes of a tag of this name, in any order.
@@ -102,9 +116,10 @@ impl Maker {
             ≡ pushed (spec.tag_form closer.now (table_of indexed.now.dtd.now).entities (rule_of rule.now))
             (making_of self.old)) }
     {
+        let name = rule.name.as_slice();
         self.word(b"<")?;
-        self.word(rule.name.as_slice())?;
-        self.attributes(indexed, rule.name.as_slice(), &rule.attributes)?;
+        self.word(name)?;
+        self.attributes(indexed, name, &rule.attributes)?;
         self.blanks()?;
         self.word(closer)?;
         self.chain()?;
@@ -137,11 +152,12 @@ impl Maker {
             ≡ keeping (element_forms (table_of indexed.now.dtd.now).entities (rule_of rule.now) [])
             (making_of self.old)) }
     {
+        let name = rule.name.as_slice();
         self.tag(indexed, rule, b">")?;
         self.keep()?;
         self.tag(indexed, rule, b"/>")?;
         self.keep()?;
-        self.end_tag(rule.name.as_slice())?;
+        self.end_tag(name)?;
         self.keep()?;
         Ok(())
     }

@@ -55,7 +55,6 @@ impl Maker {
     }
 
     /// A byte of ASCII that passes a test.
-    #[tactic(auto, unfolding(page_forms::specs::Words::ascii))]
     pub fn ascii<T: ByteTest>(&mut self, test: &T) -> Result<(), NoMemory>
         ensures { OnOk result
             (making_of self.new ≡ pushed (words.ascii (T.passing test.now)) (making_of self.old)) }

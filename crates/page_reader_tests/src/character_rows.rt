@@ -1,7 +1,9 @@
 //! Pages with their tokens, and texts with the states that they share.
 
 use crate::reading::{all_say, definition, sameness};
+use dtd_index::IndexedDtd;
 use std::test::Fail;
+use way_reader::PieceWays;
 
 const DEFINITION: &[u8] = b"<!ELEMENT html (body)>
 <!ELEMENT body (p | br)*>
@@ -15,6 +17,8 @@ const DEFINITION: &[u8] = b"<!ELEMENT html (body)>
 #[test]
 fn characters(rt: HostRuntime) -> Result<(), Fail> {
     let dtd = definition(rt.alloc(), DEFINITION)?;
+    let indexed = IndexedDtd::new(rt.alloc(), &dtd)?;
+    let ways = PieceWays::of_pages(rt.alloc(), &indexed)?;
     for (page, words) in [
         (
             b"<p>\xC3\xA9\xE2\x82\xAC\xF0\x9F\x98\x80</p>".as_slice(),
@@ -45,7 +49,7 @@ fn characters(rt: HostRuntime) -> Result<(), Fail> {
             b"text text text text text ".as_slice(),
         ),
     ] {
-        assert!(rt; all_say(rt.alloc(), &dtd, page, words)?);
+        assert!(rt; all_say(rt.alloc(), &indexed, &ways, page, words)?);
     }
     Ok(())
 }
@@ -54,6 +58,8 @@ fn characters(rt: HostRuntime) -> Result<(), Fail> {
 #[test]
 fn compared(rt: HostRuntime) -> Result<(), Fail> {
     let dtd = definition(rt.alloc(), DEFINITION)?;
+    let indexed = IndexedDtd::new(rt.alloc(), &dtd)?;
+    let ways = PieceWays::of_pages(rt.alloc(), &indexed)?;
     for (page, words) in [
         (
             b"<html xmlns='http://www.w3.org/1999/xhtml'>".as_slice(),
@@ -83,7 +89,7 @@ fn compared(rt: HostRuntime) -> Result<(), Fail> {
             b"bad ".as_slice(),
         ),
     ] {
-        assert!(rt; all_say(rt.alloc(), &dtd, page, words)?);
+        assert!(rt; all_say(rt.alloc(), &indexed, &ways, page, words)?);
     }
     Ok(())
 }
@@ -92,6 +98,8 @@ fn compared(rt: HostRuntime) -> Result<(), Fail> {
 #[test]
 fn faults(rt: HostRuntime) -> Result<(), Fail> {
     let dtd = definition(rt.alloc(), DEFINITION)?;
+    let indexed = IndexedDtd::new(rt.alloc(), &dtd)?;
+    let ways = PieceWays::of_pages(rt.alloc(), &indexed)?;
     for (page, words) in [
         (b"a\xC3".as_slice(), b"text bad ".as_slice()),
         (b"a\xC3(".as_slice(), b"text bad ".as_slice()),
@@ -113,7 +121,7 @@ fn faults(rt: HostRuntime) -> Result<(), Fail> {
         (b"<!--\xEF\xBF\xBE-->".as_slice(), b"bad ".as_slice()),
         (b"<p class='\xEF\xBF\xBF'>".as_slice(), b"bad ".as_slice()),
     ] {
-        assert!(rt; all_say(rt.alloc(), &dtd, page, words)?);
+        assert!(rt; all_say(rt.alloc(), &indexed, &ways, page, words)?);
     }
     Ok(())
 }
@@ -121,6 +129,8 @@ fn faults(rt: HostRuntime) -> Result<(), Fail> {
 #[test]
 fn the_mark(rt: HostRuntime) -> Result<(), Fail> {
     let dtd = definition(rt.alloc(), DEFINITION)?;
+    let indexed = IndexedDtd::new(rt.alloc(), &dtd)?;
+    let ways = PieceWays::of_pages(rt.alloc(), &indexed)?;
     for (page, words) in [
         (b"\xEF\xBB\xBF<br/>".as_slice(), b"<br /br ".as_slice()),
         (b"\xEF\xBB\xBF\xEF\xBB\xBF".as_slice(), b"text ".as_slice()),
@@ -128,7 +138,7 @@ fn the_mark(rt: HostRuntime) -> Result<(), Fail> {
         (b"\xEF\xBF\xBE".as_slice(), b"bad ".as_slice()),
         (b"\xEF\xBB".as_slice(), b"bad ".as_slice()),
     ] {
-        assert!(rt; all_say(rt.alloc(), &dtd, page, words)?);
+        assert!(rt; all_say(rt.alloc(), &indexed, &ways, page, words)?);
     }
     Ok(())
 }

@@ -2,7 +2,7 @@
 //! drawn. All readers and the lexer put out over each of them what a plain reading piece by piece gives.
 
 use crate::by_pieces::words_by_pieces;
-use crate::reading::{all_say_by, definition};
+use crate::reading::{all_say, definition};
 use dtd_index::IndexedDtd;
 use rand_core::utils::NextWord;
 use rand_pcg::Pcg32;
@@ -118,7 +118,7 @@ fn readers_agree_with_pieces(rt: HostRuntime) -> Result<(), Fail> {
         let page = generated(alloc, &mut numbers)?;
         let characters: Vec<char> = page.chars().collect(alloc)?;
         let words = words_by_pieces(alloc, &dtd, characters.as_slice())?;
-        assert!(rt; all_say_by(alloc, &indexed, &ways, page.as_bytes(), words.as_slice())?);
+        assert!(rt; all_say(alloc, &indexed, &ways, page.as_bytes(), words.as_slice())?);
         lawful = lawful.saturating_add(if words.as_slice().ends_with(b"bad ") {
             0
         } else {

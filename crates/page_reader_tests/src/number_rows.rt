@@ -1,7 +1,9 @@
 //! References by number with their tokens, and numbers that share states.
 
 use crate::reading::{all_say, definition, sameness};
+use dtd_index::IndexedDtd;
 use std::test::Fail;
+use way_reader::PieceWays;
 
 const DEFINITION: &[u8] = b"<!ELEMENT p (#PCDATA)>
 <!ATTLIST p class CDATA #IMPLIED>
@@ -11,6 +13,8 @@ const DEFINITION: &[u8] = b"<!ELEMENT p (#PCDATA)>
 #[test]
 fn characters_by_number(rt: HostRuntime) -> Result<(), Fail> {
     let dtd = definition(rt.alloc(), DEFINITION)?;
+    let indexed = IndexedDtd::new(rt.alloc(), &dtd)?;
+    let ways = PieceWays::of_pages(rt.alloc(), &indexed)?;
     for page in [
         b"&#9;".as_slice(),
         b"&#10;".as_slice(),
@@ -30,7 +34,7 @@ fn characters_by_number(rt: HostRuntime) -> Result<(), Fail> {
         b"&#x10000;".as_slice(),
         b"&#x10FFFF;".as_slice(),
     ] {
-        assert!(rt; all_say(rt.alloc(), &dtd, page, b"text ")?);
+        assert!(rt; all_say(rt.alloc(), &indexed, &ways, page, b"text ")?);
     }
     Ok(())
 }
@@ -39,6 +43,8 @@ fn characters_by_number(rt: HostRuntime) -> Result<(), Fail> {
 #[test]
 fn other_numbers(rt: HostRuntime) -> Result<(), Fail> {
     let dtd = definition(rt.alloc(), DEFINITION)?;
+    let indexed = IndexedDtd::new(rt.alloc(), &dtd)?;
+    let ways = PieceWays::of_pages(rt.alloc(), &indexed)?;
     for page in [
         b"&#0;".as_slice(),
         b"&#8;".as_slice(),
@@ -56,7 +62,7 @@ fn other_numbers(rt: HostRuntime) -> Result<(), Fail> {
         b"&#xFFFE;".as_slice(),
         b"&#x110000;".as_slice(),
     ] {
-        assert!(rt; all_say(rt.alloc(), &dtd, page, b"bad ")?);
+        assert!(rt; all_say(rt.alloc(), &indexed, &ways, page, b"bad ")?);
     }
     Ok(())
 }

@@ -2,7 +2,9 @@
 
 use crate::reading::{all_say, both_say_in_pieces, definition};
 use document_types::strict;
+use dtd_index::IndexedDtd;
 use std::test::Fail;
+use way_reader::PieceWays;
 
 const DEFINITION: &[u8] = b"<!ELEMENT html (body)>
 <!ELEMENT body (p | br)*>
@@ -15,6 +17,8 @@ const DEFINITION: &[u8] = b"<!ELEMENT html (body)>
 #[test]
 fn content(rt: HostRuntime) -> Result<(), Fail> {
     let dtd = definition(rt.alloc(), DEFINITION)?;
+    let indexed = IndexedDtd::new(rt.alloc(), &dtd)?;
+    let ways = PieceWays::of_pages(rt.alloc(), &indexed)?;
     for (page, words) in [
         (b"".as_slice(), b"".as_slice()),
         (
@@ -47,7 +51,7 @@ fn content(rt: HostRuntime) -> Result<(), Fail> {
             b"misc <p text _ text /p ".as_slice(),
         ),
     ] {
-        assert!(rt; all_say(rt.alloc(), &dtd, page, words)?);
+        assert!(rt; all_say(rt.alloc(), &indexed, &ways, page, words)?);
     }
     Ok(())
 }
@@ -55,6 +59,8 @@ fn content(rt: HostRuntime) -> Result<(), Fail> {
 #[test]
 fn prologs(rt: HostRuntime) -> Result<(), Fail> {
     let dtd = definition(rt.alloc(), DEFINITION)?;
+    let indexed = IndexedDtd::new(rt.alloc(), &dtd)?;
+    let ways = PieceWays::of_pages(rt.alloc(), &indexed)?;
     for (page, words) in [
         (
             b"\xEF\xBB\xBF<?xml version=\"1.0\"?>\n<!DOCTYPE html>\n<!-- a --><html/>".as_slice(),
@@ -78,7 +84,7 @@ fn prologs(rt: HostRuntime) -> Result<(), Fail> {
         (b"<!doctype html>".as_slice(), b"bad ".as_slice()),
         (b"<!DOCTYPE p>".as_slice(), b"bad ".as_slice()),
     ] {
-        assert!(rt; all_say(rt.alloc(), &dtd, page, words)?);
+        assert!(rt; all_say(rt.alloc(), &indexed, &ways, page, words)?);
     }
     Ok(())
 }
@@ -86,6 +92,8 @@ fn prologs(rt: HostRuntime) -> Result<(), Fail> {
 #[test]
 fn attributes(rt: HostRuntime) -> Result<(), Fail> {
     let dtd = definition(rt.alloc(), DEFINITION)?;
+    let indexed = IndexedDtd::new(rt.alloc(), &dtd)?;
+    let ways = PieceWays::of_pages(rt.alloc(), &indexed)?;
     for (page, words) in [
         (
             b"<p id=\"a\" class = 'b>&lt;\xC3\xA9' align=' left ' lang='en'>".as_slice(),
@@ -106,7 +114,7 @@ fn attributes(rt: HostRuntime) -> Result<(), Fail> {
         (b"<br id='a'/>".as_slice(), b"bad ".as_slice()),
         (b"<p / >".as_slice(), b"bad ".as_slice()),
     ] {
-        assert!(rt; all_say(rt.alloc(), &dtd, page, words)?);
+        assert!(rt; all_say(rt.alloc(), &indexed, &ways, page, words)?);
     }
     Ok(())
 }
@@ -114,6 +122,8 @@ fn attributes(rt: HostRuntime) -> Result<(), Fail> {
 #[test]
 fn faults(rt: HostRuntime) -> Result<(), Fail> {
     let dtd = definition(rt.alloc(), DEFINITION)?;
+    let indexed = IndexedDtd::new(rt.alloc(), &dtd)?;
+    let ways = PieceWays::of_pages(rt.alloc(), &indexed)?;
     for (page, words) in [
         (b"x<p".as_slice(), b"text bad ".as_slice()),
         (b"x&am".as_slice(), b"text bad ".as_slice()),
@@ -131,7 +141,7 @@ fn faults(rt: HostRuntime) -> Result<(), Fail> {
         (b"&#x110000;".as_slice(), b"bad ".as_slice()),
         (b"&".as_slice(), b"bad ".as_slice()),
     ] {
-        assert!(rt; all_say(rt.alloc(), &dtd, page, words)?);
+        assert!(rt; all_say(rt.alloc(), &indexed, &ways, page, words)?);
     }
     Ok(())
 }

@@ -27,15 +27,9 @@ pub fn definition(alloc: Global, text: &[u8]) -> Result<Dtd, Fail> {
     Ok(read_dtd(alloc, &mut files, ".", "d")?)
 }
 
-/// Whether all readers and the lexer put out these tokens over a page, each as a word and a space.
-pub fn all_say(alloc: Global, dtd: &Dtd, page: &[u8], words: &[u8]) -> Result<bool, NoMemory> {
-    let indexed = IndexedDtd::new(alloc, dtd)?;
-    let ways = PieceWays::of_pages(alloc, &indexed)?;
-    all_say_by(alloc, &indexed, &ways, page, words)
-}
-
-/// The same by a definition and the ways in which its pieces begin.
-pub fn all_say_by(
+/// Whether all readers and the lexer put out these tokens over a page, each as a word and a space, by a definition and the
+/// ways in which its pieces begin.
+pub fn all_say(
     alloc: Global,
     indexed: &IndexedDtd<'_>,
     ways: &PieceWays,

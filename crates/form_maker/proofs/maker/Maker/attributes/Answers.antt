@@ -7,7 +7,10 @@ use Rattle.form_maker.proofs.Attributes.{no_member, member_kept, one_member, all
 use Rattle.form_maker.proofs.maker.Maker.attributes.Goals as goal
 
 pub loop-last-init : goal.loop-last-init
-loop-last-init c = λ h. no_member (table_of c.args.indexed.now.dtd.now).entities c.args.tag.now (map declared_of c.args.rules.now.items) (making_of c.args.self.now) (making_of c.empty.new.self) c.in_ok-empty.ensures
+loop-last-init c =
+    λ h.
+    no_member (table_of c.args.indexed.now.dtd.now).entities c.args.tag.now (map declared_of c.args.rules.now.items) (map declared_of c.as_slice-left.result.now) (making_of c.args.self.now) (making_of c.empty.new.self)
+    (ap (map declared_of) c.as_slice-left.ensures.value) c.in_ok-empty.ensures
 
 pub loop-last-preserved : goal.loop-last-preserved
 loop-last-preserved c =

@@ -19,6 +19,6 @@ returns c =
     let sixth = kept_next (mark_form ∷ declaration_form ∷ blank_form ∷ bracket_form ∷ section_form ∷ []) (making_of c.args.self.now) fifth c.in_ok-comment.ensures c.in_ok-keep-6.ensures in
     let seventh = kept_next (mark_form ∷ declaration_form ∷ blank_form ∷ bracket_form ∷ section_form ∷ comment_form ∷ []) (making_of c.args.self.now) sixth c.in_ok-instruction.ensures c.in_ok-keep-7.ensures in
     let eighth =
-        kept_next (mark_form ∷ declaration_form ∷ blank_form ∷ bracket_form ∷ section_form ∷ comment_form ∷ instruction_form ∷ []) (making_of c.args.self.now) seventh c.in_ok-doctype.ensures c.in_ok-keep-8.ensures in
+    kept_next (mark_form ∷ declaration_form ∷ blank_form ∷ bracket_form ∷ section_form ∷ comment_form ∷ instruction_form ∷ []) (making_of c.args.self.now) seventh c.in_ok-doctype.ensures c.in_ok-keep-8.ensures in
     kept_both (mark_form ∷ declaration_form ∷ blank_form ∷ bracket_form ∷ section_form ∷ comment_form ∷ instruction_form ∷ doctype_form c.args.rule ∷ []) text_forms (making_of c.args.self.now)
     (making_of c.keep-8.new.self) (making_of c.texts.new.self) eighth c.in_ok-texts.ensures
