@@ -1,3 +1,4 @@
 pub mod Telling
 pub mod Finding
 mod StartLemmas
+mod KeptLemmas

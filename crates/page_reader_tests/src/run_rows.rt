@@ -7,29 +7,29 @@ const DEFINITION: &[u8] = b"<!ELEMENT p (#PCDATA)>
 <!ATTLIST p class CDATA #IMPLIED>
 ";
 
-// How many runs the reader tells, and how few moves there can be: neighbours that do the same are
-// one move.
+// How few moves there can be, where neighbours that do the same are one: the reader tells as many
+// runs.
 #[test]
 fn runs(rt: HostRuntime) -> Result<(), Fail> {
     let dtd = definition(rt.alloc(), DEFINITION)?;
-    for (text, runs, moves) in [
-        (b"<p>".as_slice(), 33, 24),
-        (b"<p class='".as_slice(), 33, 22),
-        (b"<!--".as_slice(), 33, 19),
-        (b"<![CDATA[".as_slice(), 33, 19),
-        (b"<?a ".as_slice(), 33, 19),
-        (b"a\xC2".as_slice(), 3, 3),
-        (b"a\xE0".as_slice(), 4, 3),
-        (b"a\xE1".as_slice(), 3, 3),
-        (b"a\xED".as_slice(), 4, 3),
-        (b"a\xEF".as_slice(), 4, 4),
-        (b"a\xEF\xBF".as_slice(), 4, 3),
-        (b"a\xF0".as_slice(), 4, 3),
-        (b"a\xF1\x80\x80".as_slice(), 3, 3),
-        (b"a\xF4".as_slice(), 4, 3),
-        (b"a\xFF".as_slice(), 1, 1),
+    for (text, moves) in [
+        (b"<p>".as_slice(), 24),
+        (b"<p class='".as_slice(), 22),
+        (b"<!--".as_slice(), 19),
+        (b"<![CDATA[".as_slice(), 19),
+        (b"<?a ".as_slice(), 19),
+        (b"a\xC2".as_slice(), 3),
+        (b"a\xE0".as_slice(), 3),
+        (b"a\xE1".as_slice(), 3),
+        (b"a\xED".as_slice(), 3),
+        (b"a\xEF".as_slice(), 4),
+        (b"a\xEF\xBF".as_slice(), 3),
+        (b"a\xF0".as_slice(), 3),
+        (b"a\xF1\x80\x80".as_slice(), 3),
+        (b"a\xF4".as_slice(), 3),
+        (b"a\xFF".as_slice(), 1),
     ] {
-        assert!(rt; runs_and_moves(rt.alloc(), &dtd, text)? == (runs, moves));
+        assert!(rt; runs_and_moves(rt.alloc(), &dtd, text)? == (moves, moves));
     }
     Ok(())
 }

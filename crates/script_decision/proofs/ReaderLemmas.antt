@@ -46,7 +46,7 @@ module _ (goal : Goal) (table : Table) (program : PlainProgram) (limit : ℕ) (w
   of_reader (Answer.No derivation) is = is
   of_reader (Answer.Pairs count height) is = (is.0, along (Pairs count height) is.1)
   of_reader (Answer.Tags count height) is = (is.0, along (Tags count height) is.1)
-  of_reader (Answer.Items count) is = (is.0, ways, are, is.1)
+  of_reader (Answer.Items count) is = (is.0, (ways, are, is.1))
 
   pub result_of_reader : (result : Result Answer CheckRefusal) → IfOk result IsByReader → IfOk result (IsAnswerOf goal table program limit)
   result_of_reader (Ok answer) is = of_reader answer is

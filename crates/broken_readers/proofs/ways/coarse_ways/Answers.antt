@@ -1,5 +1,9 @@
+use Rattle.std.proofs.Common.{ℕ, List, map, ap, ◌∙◌}
+use Rattle.derivatives.specs.Standing.{expr_at}
 use Rattle.broken_readers.proofs.StartLemmas.{coarse_whole}
 use Rattle.broken_readers.proofs.ways.coarse_ways.Goals as goal
 
 pub returns : goal.returns
-returns c = coarse_whole _ _ _ c.in_ok-made_coarse.ensures c.in_ok-starts.ensures
+returns c =
+    let a = c.in_ok-arena.field-0.arena in
+    coarse_whole a c.as_slice.result.now c.in_ok-starts.starts (ap (λ (ns : List ℕ). map (expr_at a) ns) c.as_slice.ensures.value ∙ c.in_ok-arena.ensures) c.in_ok-starts.ensures
