@@ -1,4 +1,4 @@
-//! Tests of page_reader, merged_reader, page_runs and page_lexer.
+//! Tests of page_reader, merged_reader, way_reader, page_runs and page_lexer.
 //! Pages with their tokens written by hand, generated pages beside a plain reading piece by piece,
 //! where two texts share a state, and how many bytes do the same.
 //! Used by: none; it stands at the top.
