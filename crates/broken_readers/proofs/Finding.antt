@@ -23,7 +23,7 @@ use Rattle.page_decision.specs.PageVerdicts.{AreAllNested}
 use Rattle.echoing_machine.specs.Echoes.{echo_of, IsEcho}
 use Rattle.echoing_machine.proofs.EchoLemmas.{is_echo}
 use Rattle.form_reader.specs.FormReader.{form_reader}
-use Rattle.form_reader.specs.Laws.{IsLawfulTable, PageTokensAreRead}
+use Rattle.form_reader.specs.Laws.{PageTokensAreRead}
 use Rattle.coarse_forms.specs.Languages.{coarse_forms}
 use Rattle.broken_forms.specs.LooseForms.{loose_forms}
 use Rattle.broken_forms.specs.Laws.{is_bad, BrokenHaveBad, CoarseAreBroken}

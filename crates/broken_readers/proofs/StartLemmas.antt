@@ -1,14 +1,13 @@
 -- Ways by the numbers of kept expressions are the forms as wholes.
-use Rattle.std.proofs.Common.{◌≡◌, ◌<◌, ℕ, zero, suc, Bool, true, false, List, [], ◌∷◌, ◌++◌, refl, sym, ◌∙◌, ap, subst, arith}
+use Rattle.std.proofs.Common.{◌≡◌, ◌<◌, ℕ, zero, suc, Bool, true, false, List, [], ◌∷◌, refl, sym, ◌∙◌, ap, subst, arith}
 use Rattle.std.specs.Prelude.{◌==◌, ◌&&◌, ◌||◌, not, nat_lt, min, length, map, get_or, if◌then◌else◌}
 use Rattle.std.proofs.lemmas.Bool.{eqb-true, ltb-true}
 use Rattle.std.proofs.lemmas.Bool.Decides.{nat_tests}
-use Rattle.text_base.specs.declared.page_token.PageToken.{PageToken}
 use Rattle.dtd_model.specs.Table.{Table}
 use Rattle.derivatives.specs.Expressions.{Expr, nothing}
 use Rattle.derivatives.specs.Standing.{expr_at}
 use Rattle.derivatives.specs.declared.arena.Arena.{Arena}
-use Rattle.page_model.specs.Places.{Place, at_beginning, behind_mark, behind}
+use Rattle.page_model.specs.Places.{at_beginning, behind_mark, behind}
 use Rattle.page_forms.specs.Forms.{Form}
 use Rattle.page_forms.specs.Simple.{is_mark}
 use Rattle.page_forms.specs.Words.{character_of}
@@ -19,7 +18,7 @@ use Rattle.broken_forms.specs.LooseForms.{loose_forms}
 use Rattle.way_reader.specs.declared.reader.Starts.{Starts}
 use Rattle.way_reader.specs.declared.way.Spot.{Spot}
 use Rattle.way_reader.specs.declared.way.Way.{Way}
-use Rattle.way_reader.specs.Laws.{IsWhole, AreWhole}
+use Rattle.way_reader.specs.Laws.{AreWhole}
 use Rattle.way_reader.specs.Reader.{starts_at}
 use Rattle.way_reader.specs.Ways.{place_of}
 use Rattle.broken_readers.specs.declared.starting.TheConstants.{AT_BEGINNING, BEHIND_MARK, BEHIND_NONE, BEHIND_ONE, BEHIND_TWO, COARSE}

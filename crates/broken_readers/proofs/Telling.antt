@@ -1,14 +1,14 @@
 -- What the readers tell.
-use Rattle.std.proofs.Common.{◌≡◌, ◌⊎◌, inl, inr, ℕ, ◌<◌, Bool, true, false, List, [], ◌∷◌, ◌++◌, refl, sym, ◌∙◌, ap, subst}
+use Rattle.std.proofs.Common.{◌≡◌, ◌⊎◌, inl, inr, ℕ, ◌<◌, List, [], ◌∷◌, ◌++◌, refl, sym, ◌∙◌, ap, subst}
 use Rattle.std.specs.Prelude.{◌↔◌, All, nat_lt}
 use Rattle.std.specs.List.{list_all}
-use Rattle.std.proofs.lemmas.Bool.{and_parts, and_from, lt-ltb}
+use Rattle.std.proofs.lemmas.Bool.{and_from, lt-ltb}
 use Rattle.std.proofs.lemmas.List.Elements.{All-head, All-tail}
 use Rattle.text_base.specs.declared.page_token.PageToken.{PageToken}
 use Rattle.dtd_model.specs.Table.{Table}
 use Rattle.derivatives.specs.Expressions.{Matches, star, is_over, is_more}
 use Rattle.derivatives.specs.declared.arena.Arena.{Arena}
-use Rattle.page_model.specs.Broken.{IsLoose, AreLoose, loose_bytes, loose_then, Broken}
+use Rattle.page_model.specs.Broken.{AreLoose, loose_bytes, loose_then, Broken}
 use Rattle.page_model.specs.Pieces.{Piece, after}
 use Rattle.page_model.specs.Places.{Place, at_beginning}
 use Rattle.piece_steps.specs.Languages.{AllLawful, spelled_then}
@@ -22,7 +22,7 @@ use Rattle.broken_forms.specs.Laws.{loose_language}
 use Rattle.broken_forms.proofs.Bytes.{bytes_apart}
 use Rattle.broken_forms.proofs.Ending.{loose_end_once, loose_have_bytes}
 use Rattle.broken_forms.proofs.Pieces.{loose_pieces_are_spelled}
-use Rattle.way_reader.specs.Cuts.{IsCut, Tells, way_tokens}
+use Rattle.way_reader.specs.Cuts.{IsCut, Tells}
 use Rattle.way_reader.specs.declared.way.Way.{Way}
 use Rattle.way_reader.specs.Laws.{IsOfPiece, HavePieces, HaveTexts}
 use Rattle.way_reader.proofs.Cuts.{tells_cuts}

@@ -1,5 +1,5 @@
 -- The expressions of the loose forms, in the order in which they are kept.
-use Rattle.std.specs.Prelude.{ℕ, List, [], ◌∷◌, ◌++◌}
+use Rattle.std.specs.Prelude.{List, [], ◌∷◌, ◌++◌}
 use Rattle.dtd_model.specs.Table.{Table}
 use Rattle.derivatives.specs.Expressions.{Expr}
 use Rattle.form_maker.specs.Kept.{simple_forms}

@@ -1,5 +1,5 @@
 -- What is found is broken, and nothing that is broken is missed.
-use Rattle.std.specs.Prelude.{◌≡◌, ◌≤◌, ◌<◌, ℕ, false, true, List, All, Option, Some, None, IfSome, IfNone}
+use Rattle.std.specs.Prelude.{◌≤◌, ◌<◌, ℕ, List, All, Option, Some, None, IfSome, IfNone}
 use Rattle.std.proofs.Common.{sym, ◌∙◌, true≢false}
 use Rattle.cfg_grammar.specs.declared.grammar.Grammar.{Grammar}
 use Rattle.derivations.specs.declared.derivation.Derivation.{Derivation}

@@ -4,11 +4,11 @@ use Rattle.text_base.specs.declared.letter.Letter.TheVariants.{OfByte}
 use Rattle.cfg_grammar.specs.declared.grammar.Grammar.{Grammar}
 use Rattle.derivations.specs.declared.derivation.Derivation.{Derivation}
 use Rattle.derivatives.specs.Expressions.{Matches}
-use Rattle.page_policy.specs.Patterns.{Pattern, Fits}
+use Rattle.page_policy.specs.Patterns.{Pattern}
 use Rattle.page_policy.specs.Forms.{form_of, FormsMatchWhatFits}
 use Rattle.policy_matching.specs.Matching.{IsTextOf, IsMiss}
 use Rattle.script_meaning.specs.Programs.{PlainProgram}
-use Rattle.loose_grammar.specs.Pages.{IsLoosePage, IsPageGrammar}
+use Rattle.loose_grammar.specs.Pages.{IsPageGrammar}
 use Rattle.script_decision.specs.declared.showing_pages.ShownPage.{ShownPage}
 use Rattle.script_decision.specs.Shows.{Shows}
 use Rattle.script_decision.proofs.PageLemmas.{texts_are_pages}

@@ -31,8 +31,6 @@ use Rattle.script_decision.specs.Shows.{Shows}
 use Rattle.script_decision.specs.Shown.{IsShownCounterexample}
 use Rattle.script_decision.proofs.PageLemmas.{texts_are_pages}
 use Rattle.script_decision.proofs.ShownLemmas.{ShowsEach, own_bytes}
-use Rattle.short_sentences.specs.declared.answer.ShortAnswer.{ShortAnswer}
-use Rattle.short_sentences.specs.declared.answer.ShortAnswer.TheVariants.{Pairs, Tags}
 use Rattle.short_page.specs.ShortPages.{AreShorterGood, IsShortestBad, HasShortSums, HasShortTags, HasManyShortSums, HasManyShortTags}
 use Rattle.script_decision.specs.declared.shortest_answer.ShortestAnswer.{ShortestAnswer}
 use Rattle.script_decision.specs.declared.shortest_answer.ShortestAnswer.TheVariants as answer

@@ -78,14 +78,7 @@ pub(crate) fn found_in(
         reader: WayReader { ways: pages.ways },
     };
     shortest_page(
-        alloc,
-        grammar,
-        pages.dtd,
-        goal,
-        &machine,
-        sums,
-        items,
-        pairs,
+        alloc, grammar, pages.dtd, goal, &machine, sums, items, pairs,
     )
 }
 

@@ -1,5 +1,5 @@
 -- All bytes of a class lead to one state and put out the same.
-use Rattle.std.proofs.Common.{◌≡◌, ◌≤◌, ℕ, List, [], ◌∷◌, ◌++◌, Option, refl, sym, ◌∙◌, ap, subst, arith, length, drop}
+use Rattle.std.proofs.Common.{◌≡◌, ◌≤◌, ℕ, List, [], ◌∷◌, ◌++◌, refl, sym, ◌∙◌, ap, subst, arith, length, drop}
 use Rattle.std.proofs.lemmas.List.{drop_all}
 use Rattle.std.specs.Prelude.{min}
 use Rattle.text_base.specs.declared.page_token.PageToken.{PageToken}
@@ -10,15 +10,14 @@ use Rattle.echoing_machine.specs.Runs.{AreAlike}
 use Rattle.page_model.specs.Places.{Place}
 use Rattle.piece_steps.specs.Readers.{put_out, to_state}
 use Rattle.partial_derivatives.specs.Classes.{last_in_turn}
-use Rattle.partial_derivatives.specs.Parts.{behind_parts}
 use Rattle.partial_derivatives.specs.declared.part.Part.{Part}
 use Rattle.partial_derivatives.proofs.Alike.{are_classes_in_turn}
 use Rattle.way_reader.specs.Classes.{last_of}
-use Rattle.way_reader.specs.Ways.{Open, at_place, in_piece, place_of, ways_by, ways_behind, live, ended, move_by, way_reader, coded, next_state, tokens_at}
+use Rattle.way_reader.specs.Ways.{place_of, ways_by, ways_behind, ended, move_by, way_reader, coded, next_state, tokens_at}
 use Rattle.way_reader.specs.declared.way.Spot.{Spot}
 use Rattle.way_reader.specs.declared.way.Way.{Way}
 use Rattle.way_reader.specs.declared.way.WayState.{WayState}
-use Rattle.way_reader.specs.declared.way.WayState.TheVariants.{Failed, At, Inside}
+use Rattle.way_reader.specs.declared.way.WayState.TheVariants.{At, Inside}
 
 below_left : (m n k : ℕ) → k ≤ min m n → k ≤ m
 below_left m n k h = omega arith

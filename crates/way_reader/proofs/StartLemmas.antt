@@ -1,5 +1,5 @@
 -- Ways that begin by the numbers of all forms are the forms as a whole.
-use Rattle.std.proofs.Common.{◌≡◌, ◌<◌, ◌≤◌, ◌+◌, ◌*◌, ℕ, zero, suc, Bool, true, false, List, [], ◌∷◌, ◌++◌, Option, Some, None, map, length, get_or, slice_get, refl, sym, ◌∙◌, ap, subst, arith}
+use Rattle.std.proofs.Common.{◌≡◌, ◌+◌, ◌*◌, ℕ, zero, suc, Bool, false, List, [], ◌∷◌, ◌++◌, Some, map, length, slice_get, refl, sym, ◌∙◌, ap, subst, arith}
 use Rattle.std.specs.Prelude.{◌==◌, ◌&&◌, ◌||◌, not, if◌then◌else◌, min}
 use Rattle.std.proofs.lemmas.Bool.Decides.{nat_tests}
 use Rattle.text_base.specs.declared.page_token.PageToken.{PageToken}
@@ -19,11 +19,10 @@ use Rattle.page_forms.specs.Remarks.{comment_form, section_form, instruction_for
 use Rattle.page_forms.specs.Simple.{blank_form, bracket_form, is_mark, text_form, mark_form}
 use Rattle.page_forms.specs.Words.{character_of}
 use Rattle.page_forms.specs.Forms.{Form, giving as form_giving, elements_forms, leaf_forms, forms}
-use Rattle.form_maker.specs.Kept.{shared, simple_forms, text_forms, tag_forms, all_forms}
+use Rattle.form_maker.specs.Kept.{shared, simple_forms, tag_forms, all_forms}
 use Rattle.way_reader.specs.Laws.{IsWhole, AreWhole}
 use Rattle.way_reader.specs.Reader.{starts_at}
 use Rattle.way_reader.specs.Starts.{number_at, whole, giving, brackets_behind, text_at, text, others, elements, all, AreStarts}
-use Rattle.way_reader.specs.Ways.{place_of}
 use Rattle.way_reader.specs.declared.reader.Starts.{Starts}
 use Rattle.way_reader.specs.declared.way.Spot.{Spot}
 use Rattle.way_reader.specs.declared.way.Spot.TheVariants.{Beginning, BehindMark, Behind}

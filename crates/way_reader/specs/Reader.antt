@@ -1,5 +1,5 @@
 -- The ways in which pieces begin, in memory.
-use Rattle.std.specs.Prelude.{ℕ, ◌==◌, if◌then◌else◌, List}
+use Rattle.std.specs.Prelude.{◌==◌, if◌then◌else◌, List}
 use Rattle.page_model.specs.Places.{Place, at_beginning, behind_mark, behind}
 use Rattle.way_reader.specs.declared.reader.Starts.{Starts}
 use Rattle.way_reader.specs.declared.way.Way.{Way}

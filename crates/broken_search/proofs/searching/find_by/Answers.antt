@@ -1,4 +1,3 @@
-use Rattle.std.specs.Prelude.{IfErr}
 use Rattle.std.proofs.Common.{arith}
 use Rattle.std.proofs.lemmas.Result.{IfOk-weaker, IfErr-weaker}
 use Rattle.cfg_grammar.specs.declared.symbol.Symbol as symbols

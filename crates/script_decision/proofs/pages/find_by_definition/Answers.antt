@@ -2,7 +2,6 @@ use Rattle.std.specs.Prelude.{Option, Some, None, IfSome}
 use Rattle.std.proofs.lemmas.Result.{IfOk-weaker}
 use Rattle.derivations.specs.declared.derivation.Derivation.{Derivation}
 use Rattle.dtd_model.specs.TableOf.{table_of}
-use Rattle.page_decision.specs.declared.goal.Goal as goals
 use Rattle.script_decision.proofs.pages.find_by_definition.Goals as goal
 
 if_some : {A : Type 0} (P Q : A → Type 0) (o : Option A) → ((a : A) → P a → Q a) → IfSome o P → IfSome o Q

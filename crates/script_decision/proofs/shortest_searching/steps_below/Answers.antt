@@ -1,5 +1,3 @@
-use Rattle.dtd_model.specs.TableOf.{table_of}
-use Rattle.script_decision.specs.ShortestBelow.{IsBelow}
 use Rattle.script_decision.proofs.shortest_searching.steps_below.Goals as goal
 
 pub returns-in-Ok-Bad : goal.returns-in-Ok-Bad

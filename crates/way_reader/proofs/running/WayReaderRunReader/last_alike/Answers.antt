@@ -1,7 +1,6 @@
 use Rattle.std.proofs.Common.{◌≤◌, ℕ, arith, sym, subst, ◌∙◌, ap}
 use Rattle.way_reader.specs.Classes.{last_of}
 use Rattle.way_reader.specs.Reader.{starts_at}
-use Rattle.way_reader.specs.Ways.{place_of}
 use Rattle.way_reader.specs.declared.way.Way.{Way}
 use Rattle.std.specs.Prelude.{List}
 use Rattle.way_reader.proofs.Runs.{own, from_spot, from_ways}
