@@ -31,7 +31,8 @@ HasManyItems table program count = (ways : PieceWays) × ArePageWays table ways
 -- the grammar is an image, under such a reader, of the grammar of loose pages that is made of the program
 abbrev pub IsReaderImage : Table → PlainProgram → Grammar → Type 0
 IsReaderImage table program image = (ways : PieceWays) × ArePageWays table ways
-    × by_machine.IsPageImage first_state (WayStep ways.arena (starts_at ways.starts)) (WayEnd ways.arena (starts_at ways.starts)) program image
+    × by_machine.IsPageImage first_state (WayStep ways.arena (starts_at ways.starts)) (WayEnd ways.arena (starts_at ways.starts))
+    program image
 
 -- yes: each loose page is good; no: a derivation of one that is not; a stated count that is passed, behind a search for a broken page: of
 -- sums of the sentences of a nonterminal, of unmatched tags, of items

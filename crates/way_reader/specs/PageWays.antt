@@ -7,6 +7,6 @@ use Rattle.way_reader.specs.Reader.{starts_at}
 use Rattle.way_reader.specs.declared.reader.PieceWays.{PieceWays}
 
 -- at each place they are the forms there, each as a whole, in their order, by the definition with this table. In an arena two numbers that
--- stand for one expression are one (`HasEachOnce` of derivatives), so the states of a reader by such ways are settled but for those numbers.
+-- stand for one expression are one (`HasEachOnce` of derivatives), so the states of a reader by such ways are settled but for numbers.
 abbrev pub ArePageWays : Table → PieceWays → Type 0
 ArePageWays table ways = (place : Place) → AreWhole ways.arena (starts_at ways.starts place) (forms table place)
