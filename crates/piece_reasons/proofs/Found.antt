@@ -1,6 +1,6 @@
 -- What the code finds, as what the reasons say.
-use Rattle.std.proofs.Common.{◌≡◌, ℕ, zero, suc, ◌<◌, List, [], ◌∷◌, ◌++◌, Option, Some, None, refl, sym, ◌∙◌, ap, subst, length, get_or, map, arith, codes, slice_get}
-use Rattle.std.specs.Prelude.{Bool, true, false, nat_eq, is_some, Decides}
+use Rattle.std.proofs.Common.{◌≡◌, ℕ, zero, suc, ◌<◌, List, [], ◌∷◌, Option, Some, None, refl, sym, ◌∙◌, ap, subst, length, get_or, map, arith, codes, slice_get}
+use Rattle.std.specs.Prelude.{Bool, false, nat_eq, is_some, Decides}
 use Rattle.std.proofs.lemmas.Bool.{eqb-true, eq-eqb}
 use Rattle.xml_text.specs.Characters.{is_blank, is_character}
 use Rattle.dtd_model.specs.Table.{Declared, Table}

@@ -1,14 +1,14 @@
 -- What the reasons say, from what the code finds.
-use Rattle.std.proofs.Common.{◌≡◌, inl, inr, ℕ, Bool, true, false, not, ◌&&◌, ◌||◌, List, [], ◌∷◌, ◌++◌, Option, Some, None, refl, sym, ◌∙◌, ap, subst, append_assoc, codes, map, slice_get}
-use Rattle.std.specs.Prelude.{if◌then◌else◌, ◌==◌, nat_eq, bytes_eq}
-use Rattle.std.specs.List.{list_all, list_any, starts_with}
+use Rattle.std.proofs.Common.{◌≡◌, ℕ, Bool, true, false, not, ◌&&◌, ◌||◌, List, [], ◌∷◌, ◌++◌, Some, None, refl, sym, ◌∙◌, ap, subst, append_assoc, codes, slice_get}
+use Rattle.std.specs.Prelude.{if◌then◌else◌, ◌==◌, nat_eq}
+use Rattle.std.specs.List.{list_all, list_any}
 use Rattle.std.proofs.lemmas.Bool.{and_parts, and_from}
 use Rattle.text_base.specs.declared.numbers.Elem.{Elem}
 use Rattle.xml_text.specs.Characters.{is_blank, is_character}
 use Rattle.xml_text.specs.Names.{begins_name, in_name}
 use Rattle.dtd_model.specs.References.{is_some, is_reference}
-use Rattle.dtd_model.specs.Table.{Declared, Rule, Table}
-use Rattle.page_model.specs.Attributes.{find_rule, is_allowed, doctype_fits, must_stand, stands}
+use Rattle.dtd_model.specs.Table.{Declared, Table}
+use Rattle.page_model.specs.Attributes.{is_allowed, must_stand, stands}
 use Rattle.page_model.specs.Parts.{Attribute, attribute_then, attributes_then, IsAttribute, AreAttributes, is_quote, may_be_quoted, refers_by, reference_of}
 use Rattle.page_model.specs.Pieces.{Piece, doctype, piece_then, IsPiece}
 use Rattle.page_model.specs.Places.{Place}
@@ -23,12 +23,11 @@ use Rattle.page_model.proofs.ScanLemmas.{came, then_is, front_all}
 use Rattle.page_model.proofs.SoundLemmas.{piece_is}
 use Rattle.piece_reasons.specs.declared.reasons.AttributeReason.{AttributeReason}
 use Rattle.piece_reasons.specs.declared.reasons.Span.{Span}
-use Rattle.piece_reasons.specs.declared.reasons.IdentifierForm.{IdentifierForm}
 use Rattle.piece_reasons.specs.declared.reasons.PieceReason.{PieceReason}
 use Rattle.piece_reasons.specs.declared.reasons.PieceReason.TheVariants as reason
-use Rattle.piece_reasons.specs.Causes.{InTarget, InEndTag, IsTagName, IsNotClosed, IsCause, form_of}
+use Rattle.piece_reasons.specs.Causes.{IsNotClosed, IsCause}
 use Rattle.piece_reasons.specs.Doctypes.{IsOther}
-use Rattle.piece_reasons.specs.Openers.{begins_markup, begins_reference, is_doctype_word, is_named, from_first}
+use Rattle.piece_reasons.specs.Openers.{begins_markup, begins_reference, is_named}
 use Rattle.piece_reasons.specs.Spans.{place_before, IsSpan}
 use Rattle.piece_reasons.specs.Tags.{IsName, IsWhole, IsValue, InTag, IsTagOf, IsWrong, HasCome, begins_close, is_tag_end}
 use Rattle.piece_reasons.proofs.Fronts.{IsBehind}

@@ -1,7 +1,6 @@
 -- Why no lawful piece begins at a place of a page: what each reason says of the characters from there on.
-use Rattle.std.specs.Prelude.{◌≡◌, ◌⊎◌, ℕ, Bool, true, false, List, [], ◌∷◌, ◌++◌, codes, bytes_eq, drop, Some, None, slice_get}
+use Rattle.std.specs.Prelude.{◌≡◌, ◌⊎◌, ℕ, true, false, List, ◌∷◌, ◌++◌, codes, bytes_eq, Some, None, slice_get}
 use Rattle.std.specs.Str.{str_eq_ignore_ascii_case, str_to_ascii_lowercase}
-use Rattle.text_base.specs.declared.numbers.Elem.{Elem}
 use Rattle.xml_text.specs.Characters.{is_blank, is_character}
 use Rattle.dtd_model.specs.References.{is_known}
 use Rattle.dtd_model.specs.Table.{Declared, Rule, Table}
@@ -9,7 +8,7 @@ use Rattle.page_model.specs.Attributes.{doctype_fits, find_rule, must_stand, sta
 use Rattle.page_model.specs.Parts.{Attribute, reference_of}
 use Rattle.page_model.specs.Places.{Place, behind, is_early}
 use Rattle.page_model.specs.Prolog.{Doctype, doctype_then, IsDoctype, Identifier, no_identifier, system, public}
-use Rattle.page_model.specs.Scan.{front, beyond, is_other, strip}
+use Rattle.page_model.specs.Scan.{front, beyond, is_other}
 use Rattle.page_rules.specs.Found.{IsElement}
 use Rattle.piece_reasons.specs.declared.reasons.IdentifierForm.{IdentifierForm}
 use Rattle.piece_reasons.specs.declared.reasons.IdentifierForm.TheVariants as form

@@ -1,5 +1,4 @@
 use Rattle.std.proofs.Common.{ℕ, List, sym, ◌∙◌, ap}
-use Rattle.page_model.specs.Attributes.{is_allowed}
 use Rattle.page_model.specs.Pieces.{Piece}
 use Rattle.page_rules.specs.Views.{piece_of, place_of, seen_piece}
 use Rattle.piece_reasons.specs.Sites.{table_at}

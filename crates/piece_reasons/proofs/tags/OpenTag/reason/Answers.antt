@@ -1,4 +1,4 @@
-use Rattle.std.proofs.Common.{ℕ, ◌<◌, List, length, map, sym, ◌∙◌, ap, subst, ◌≡◌, rules}
+use Rattle.std.proofs.Common.{ℕ, ◌<◌, List, length, map, sym, ◌∙◌, ap, subst, rules}
 use Rattle.dtd_model.specs.Table.{declared_of}
 use Rattle.page_model.specs.Parts as parts
 use Rattle.page_model.specs.Parts.{IsAttribute}
