@@ -1,0 +1,4 @@
+pub mod MadeLemmas
+pub mod BuiltLemmas
+pub mod TenLemmas
+pub mod RightLemmas

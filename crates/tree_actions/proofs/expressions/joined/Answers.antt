@@ -1,0 +1,16 @@
+use Rattle.std.proofs.Common.{refl}
+use Rattle.tree_values.proofs.OptionLemmas.{none_of}
+use Rattle.tree_actions.proofs.expressions.joined.Goals as goal
+
+pub returns-in_default : goal.returns-in_default
+returns-in_default c =
+    let is = none_of c.in_ok-left.field-0 c.in_default.not-Some in
+    let none = rw is at c.in_ok-left.ensures in
+    rw none refl
+
+pub returns-in_default-2 : goal.returns-in_default-2
+returns-in_default-2 c =
+    let h0 = rw c.in-Some.is at c.in_ok-left.ensures in
+    let is = none_of c.in_ok-right.field-0 c.in_default-2.not-Some in
+    let none = rw is at c.in_ok-right.ensures in
+    rw (h0, none) refl
