@@ -1,13 +1,13 @@
 -- What is built as a value.
-use Rattle.std.proofs.Common.{◌≡◌, ℕ, ◌+◌, ◌<◌, ◌≤◌, Bool, true, false, List, ap, ◌∙◌, subst, arith, Option, Some, None, if◌then◌else◌}
+use Rattle.std.proofs.Common.{◌≡◌, ℕ, ◌+◌, ◌<◌, ◌≤◌, Bool, true, false, List, ap, ◌∙◌, sym, subst, arith, Option, Some, None, if◌then◌else◌}
 use Rattle.std.specs.Prelude.{nat_lt, max, ◌&&◌, ◌||◌, MatchOption}
 use Rattle.std.proofs.lemmas.Bool.{lt-ltb, and_left}
 use Rattle.text_base.specs.declared.limits.TheConstants.{HEIGHT_LIMIT}
-use Rattle.php_syntax.specs.Trees.{PlainExpr, join_expr, PlainExprs, no_exprs, more_exprs, PlainPath, if_stmt, PlainStmts, PlainArms, no_arms, more_arms, exprs_of}
+use Rattle.php_syntax.specs.Trees.{PlainExpr, join_expr, PlainExprs, no_exprs, more_exprs, PlainPath, PlainItems, if_stmt, PlainStmts, no_stmts, more_stmts, PlainArms, no_arms, more_arms, exprs_of}
 use Rattle.php_syntax.specs.Height.{height, stmts_height, arms_height}
 use Rattle.script_grammar.specs.Rules.{expr_fits, exprs_fit, path_fits, is_known, stmts_fit, arms_fit}
-use Rattle.php_trees.specs.Values.{Spelling, chain, Value, expr, place, branch, exprs_and}
-use Rattle.php_trees.specs.Actions.{one_stmt}
+use Rattle.php_trees.specs.Values.{Spelling, chain, Value, expr, place, branch, stmts, items, exprs_and, items_and}
+use Rattle.php_trees.specs.Actions.{one_stmt, next_items}
 use Rattle.php_trees.specs.Rules.{keeps, kept}
 use Rattle.script_rules.specs.Parts.{value_height, is_high, read_height}
 use Rattle.tree_values.specs.declared.trees.Chain.{Chain}
@@ -89,3 +89,22 @@ pub high_last_arm : (e : PlainExpr) (ss : PlainStmts) (arms : PlainArms) (others
 high_last_arm e ss arms others a b c d f g fits body rest behind high =
     high_stmt (if_stmt (more_arms e ss arms) others) (max (arms_height (more_arms e ss arms)) (stmts_height others)) ((a || c) || f) ((b || d) || g) (if_high (more_arms e ss arms) others)
     (omega (arith, high, arms_push_high e ss arms)) (if_fits (more_arms e ss arms) others (a || c) (b || d) f g (arms_push_fit e ss arms a b c d fits body rest) behind)
+
+-- what stands in memory is what was to be made
+pub branch_same : (a b : PlainArms) (s t : PlainStmts) → b ≡ a → t ≡ s → Some (branch a s) ≡ Some (branch b t)
+branch_same a b s t e f = sym (ap (λ (x : PlainArms). Some (branch x t)) e ∙ ap (λ (x : PlainStmts). Some (branch a x)) f)
+
+pub whole_same : (a b : PlainArms) (s t all : PlainStmts) → b ≡ a → t ≡ s → all ≡ more_stmts (if_stmt b t) no_stmts → Some (one_stmt (if_stmt a s)) ≡ Some (stmts all)
+whole_same a b s t all e f g =
+    sym (ap (λ (x : PlainStmts). Some (stmts x)) g ∙ ap (λ (x : PlainArms). Some (one_stmt (if_stmt x t))) e ∙ ap (λ (x : PlainStmts). Some (one_stmt (if_stmt a x))) f)
+
+pub place_same : (x y : List ℕ) (ks js : PlainPath) → y ≡ x → js ≡ ks → Some (place x ks) ≡ Some (place y js)
+place_same x y ks js e f = sym (ap (λ (z : List ℕ). Some (place z js)) e ∙ ap (λ (z : PlainPath). Some (place x z)) f)
+
+-- items of an array, behind others
+pub behind_hole : (v w : Value) (is : PlainItems) (hole : Bool) → v ≡ items is hole → hole ≡ true → next_items v w ≡ None
+behind_hole v w is hole e h = ap (λ (u : Value). next_items u w) e ∙ ap (λ (b : Bool). next_items (items is b) w) h
+
+pub items_joined : (v w : Value) (is js all : PlainItems) (hole last : Bool) → v ≡ items is hole → hole ≡ false → w ≡ items js last → all ≡ items_and is js → next_items v w ≡ Some (items all last)
+items_joined v w is js all hole last e h f g =
+    ap (λ (u : Value). next_items u w) e ∙ ap (λ (b : Bool). next_items (items is b) w) h ∙ ap (next_items (items is false)) f ∙ ap (λ (ks : PlainItems). Some (items ks last)) (sym g)

@@ -1,10 +1,12 @@
 //! What the rules of functions and files make of values.
 
-ghost use Rattle.std.specs.Prelude.{◌≡◌, ◌<◌, ◌+◌, ◌∷◌, ◌++◌, [], max, false, Some, None, IfOk, MatchOption};
+ghost use Rattle.std.specs.Prelude.{◌≡◌, ◌<◌, ◌+◌, ◌∷◌, ◌++◌, [], max, false, Some, None, IfOk, MatchOption, is_some};
+ghost use Rattle.std.specs.Str.{str_to_ascii_lowercase};
 ghost use Rattle.text_base.specs.declared.limits.TheConstants.{HEIGHT_LIMIT};
 ghost use Rattle.php_syntax.specs.Trees.{maybe_of, stmts_of, params_of_list, plain_function, plain_file, no_stmts};
 ghost use Rattle.php_syntax.specs.Height as highs;
 ghost use Rattle.script_grammar.specs.Rules.{params_fit};
+ghost use Rattle.script_grammar.specs.Terminals.{keyword_of};
 ghost use Rattle.php_trees.specs.Values as plain;
 ghost use Rattle.php_trees.specs.Actions as actions;
 ghost use Rattle.php_trees.specs.Actions.{of_two, of_three, part_and, function_and, parameter_of};
@@ -17,6 +19,7 @@ use script_grammar::reserved::is_writable;
 use std::alloc::Global;
 use text_base::limits::HEIGHT_LIMIT;
 use text_base::{Bytes, NoMemory};
+use tree_values::params::Named;
 use tree_values::trees::{Body, File, Function, Optional, Params};
 use tree_values::value::{Made, Spelled, Value};
 
@@ -27,10 +30,25 @@ pub(crate) fn function_name(alloc: Global, token: &Value) -> Result<Option<Bytes
     let Some(name) = token.name() else {
         return Ok(None);
     };
-    if keyword_named(name.as_slice()).is_some() {
+    if is_keyword(name.as_slice()) {
         return Ok(None);
     }
-    Ok(Some(Bytes::from_vec(name.as_slice().to_ascii_lowercase(alloc)?)))
+    let lower = lower_case(alloc, name)?;
+    Ok(Some(lower))
+}
+
+// Whether a name is a keyword of the language.
+fn is_keyword(name: &[u8]) -> bool
+    ensures { result ≡ is_some (keyword_of name.now) }
+{
+    keyword_named(name).is_some()
+}
+
+// A name in lower case.
+fn lower_case(alloc: Global, name: &Bytes) -> Result<Bytes, NoMemory>
+    ensures { IfOk result (λ lower. lower ≡ str_to_ascii_lowercase name.now) }
+{
+    Ok(Bytes::from_vec(name.as_slice().to_ascii_lowercase(alloc)?))
 }
 
 /// A parameter.
@@ -115,10 +133,11 @@ fn function_made<'a>(name: Bytes, params: Params, body: Body) -> Made<'a>
         params: params.params,
         body: body.stmts,
     };
-    Made::Value(Value::Function(Function {
+    let made = Function {
         tree,
         height: below + 1,
-    }))
+    };
+    Made::Value(Value::Function(made))
 }
 
 /// A file without statements and functions.
@@ -156,7 +175,8 @@ fn part_made<'a>(file: File, body: Body) -> Result<Made<'a>, NoMemory>
         body: stmts,
         functions,
     };
-    Ok(Made::Value(Value::File(File { tree, height })))
+    let made = File { tree, height };
+    Ok(Made::Value(Value::File(made)))
 }
 
 /// Statements of a file outside of functions.
@@ -192,7 +212,8 @@ fn function_added<'a>(file: File, function: Function) -> Result<Made<'a>, NoMemo
     } = file.tree;
     functions.push(function.tree)?;
     let tree = FileTree { body, functions };
-    Ok(Made::Value(Value::File(File { tree, height })))
+    let made = File { tree, height };
+    Ok(Made::Value(Value::File(made)))
 }
 
 /// A function of a file.

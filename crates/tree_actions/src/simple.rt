@@ -36,12 +36,13 @@ pub(crate) fn statement<'a>(
     }
     let mut stmts = Vec::new(alloc);
     stmts.push(stmt)?;
-    Ok(Made::Value(Value::Stmts(Body {
+    let made = Body {
         stmts,
         height: below + 1,
         needs_loop,
         needs_function,
-    })))
+    };
+    Ok(Made::Value(Value::Stmts(made)))
 }
 
 /// Text outside of PHP.

@@ -1,4 +1,5 @@
-use Rattle.std.proofs.Common.{refl, sym}
+use Rattle.std.proofs.Common.{refl, sym, ap, ◌∙◌}
+use Rattle.php_syntax.specs.Trees.{plain_expr, more_items, no_items}
 use Rattle.tree_values.proofs.OptionLemmas.{none_of}
 use Rattle.tree_actions.proofs.lists.keyed_element.Goals as goal
 
@@ -19,4 +20,5 @@ pub returns : goal.returns
 returns c =
     let h0 = rw c.in-Some.is at c.in_ok-key.ensures in
     let h1 = rw c.in-Some-2.is at c.in_ok-operand.ensures in
-    rw (h0, h1, sym c.in_ok-items.ensures) (refl)
+    let items = c.in_ok-items.ensures ∙ ap (λ k. more_items k (plain_expr c.in-Some-2.operand.tree) no_items) c.optional.ensures in
+    rw (h0, h1, sym items) refl
