@@ -3,9 +3,9 @@ use Rattle.std.proofs.Common.{◌≡◌, ℕ, ◌+◌, ◌<◌, ◌≤◌, Bool,
 use Rattle.std.specs.Prelude.{nat_lt, max, ◌&&◌, ◌||◌, MatchOption}
 use Rattle.std.proofs.lemmas.Bool.{lt-ltb, and_left}
 use Rattle.text_base.specs.declared.limits.TheConstants.{HEIGHT_LIMIT}
-use Rattle.php_syntax.specs.Trees.{PlainExpr, join_expr, PlainExprs, no_exprs, more_exprs, PlainPath, PlainItems, if_stmt, PlainStmts, no_stmts, more_stmts, PlainArms, no_arms, more_arms, exprs_of}
+use Rattle.php_syntax.specs.Trees.{PlainExpr, join_expr, PlainExprs, no_exprs, more_exprs, PlainPath, PlainItems, if_stmt, run_stmt, PlainStmts, no_stmts, more_stmts, PlainArms, no_arms, more_arms, exprs_of}
 use Rattle.php_syntax.specs.Height.{height, stmts_height, arms_height}
-use Rattle.script_grammar.specs.Rules.{expr_fits, exprs_fit, path_fits, is_known, stmts_fit, arms_fit}
+use Rattle.script_grammar.specs.Rules.{expr_fits, exprs_fit, path_fits, is_known, stmt_fits, stmts_fit, arms_fit}
 use Rattle.php_trees.specs.Values.{Spelling, chain, Value, expr, place, branch, stmts, items, exprs_and, items_and}
 use Rattle.php_trees.specs.Actions.{one_stmt, next_items}
 use Rattle.php_trees.specs.Rules.{keeps, kept}
@@ -16,7 +16,7 @@ use Rattle.tree_values.specs.Grown.{AllFit, ArmsFit}
 use Rattle.tree_values.specs.Shown.{Makes}
 use Rattle.tree_values.proofs.NodeLemmas.{join_high, join_fits}
 use Rattle.tree_values.proofs.RowLemmas.{exprs_push_fit, exprs_push_high, two_exprs_fit, two_exprs_high}
-use Rattle.tree_values.proofs.StmtLemmas.{high_stmt, if_high, if_fits}
+use Rattle.tree_values.proofs.StmtLemmas.{high_stmt, if_high, if_fits, run_high, run_fits}
 use Rattle.tree_values.proofs.ArmLemmas.{no_arms_fit, arms_push_fit, arms_push_high}
 
 -- what keeps the rules is kept, and what breaks one is not
@@ -108,3 +108,11 @@ behind_hole v w is hole e h = ap (λ (u : Value). next_items u w) e ∙ ap (λ (
 pub items_joined : (v w : Value) (is js all : PlainItems) (hole last : Bool) → v ≡ items is hole → hole ≡ false → w ≡ items js last → all ≡ items_and is js → next_items v w ≡ Some (items all last)
 items_joined v w is js all hole last e h f g =
     ap (λ (u : Value). next_items u w) e ∙ ap (λ (b : Bool). next_items (items is b) w) h ∙ ap (next_items (items is false)) f ∙ ap (λ (ks : PlainItems). Some (items ks last)) (sym g)
+
+-- an expression as a statement
+pub broken_run : (e : PlainExpr) → expr_fits e ≡ false → kept (Some (one_stmt (run_stmt e))) ≡ None
+unfolding stmt_fits
+broken_run e h = broken_is (one_stmt (run_stmt e)) (ap (λ (b : Bool). b && true) h)
+
+pub high_run : (e : PlainExpr) → (expr_fits e ≡ true) × (HEIGHT_LIMIT < height e) → is_high (kept (Some (one_stmt (run_stmt e)))) ≡ true
+high_run e h = let high : HEIGHT_LIMIT < height e = h.1 in high_stmt (run_stmt e) (height e) false false (run_high e) (omega (arith, high)) (run_fits e h.0)

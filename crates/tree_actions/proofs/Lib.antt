@@ -4,3 +4,5 @@ pub mod TenLemmas
 pub mod RightLemmas
 pub mod FileLemmas
 pub mod TextLemmas
+pub mod EscapeLemmas
+pub mod OperatorLemmas

@@ -3,7 +3,7 @@
 ghost use Rattle.std.specs.Prelude.{◌≡◌, ◌<◌, true, Some, None, IfOk, MatchOption};
 ghost use Rattle.std.specs.Option.{option_map};
 ghost use Rattle.text_base.specs.declared.limits.TheConstants.{HEIGHT_LIMIT};
-ghost use Rattle.php_syntax.specs.Trees.{PlainExpr, plain_expr, exprs_of, join_expr, coalesce_expr, some_expr, no_expr};
+ghost use Rattle.php_syntax.specs.Trees.{PlainExpr, plain_expr, exprs_of, int_expr, join_expr, coalesce_expr, some_expr, no_expr, more_exprs, no_exprs};
 ghost use Rattle.php_syntax.specs.Height.{height};
 ghost use Rattle.script_grammar.specs.declared.operator.Prefix.TheVariants as prefixes;
 ghost use Rattle.script_grammar.specs.Operators.{binary_operator, prefix_operator};
@@ -85,9 +85,22 @@ pub(crate) fn operate<'a>(
     let Some(sign) = sign.sign() else {
         return Ok(Made::Nothing);
     };
-    let Some((_, operator)) = binary_of(sign) else {
+    let Some(found) = binary_of(sign) else {
         return Ok(Made::Nothing);
     };
+    by_operator(alloc, found.1, left, right)
+}
+
+// Two operands by an operator.
+fn by_operator<'a>(
+    alloc: Global,
+    operator: Operator,
+    left: Value<'a>,
+    right: Value<'a>,
+) -> Result<Made<'a>, NoMemory>
+    ensures { IfOk result (λ made. Makes made (of_two (actions.operated operator (plain_value left.entry))
+        (plain.operand_of (plain_value left.entry)) (plain.operand_of (plain_value right.entry)))) }
+{
     match operator {
         Operator::Join => joined(alloc, left, right),
         Operator::Or => operated(alloc, Operator::Or, left, right),
@@ -130,20 +143,32 @@ fn chained<'a>(chain: Option<Chain>) -> Made<'a>
     }
 }
 
+// A chain and one more operand.
+fn chain_grown<'a>(chain: Chain, right: Operand) -> Result<Made<'a>, NoMemory>
+    ensures { IfOk result (λ made. Makes made (Some (plain.expr plain.chain (join_expr
+        (plain.exprs_and (exprs_of chain.exprs.items) (more_exprs (plain_expr right.tree) no_exprs)))))) }
+{
+    let found = chain.with(right)?;
+    Ok(chained(found))
+}
+
+// A chain of two operands.
+fn chain_begun<'a>(alloc: Global, left: Operand, right: Operand) -> Result<Made<'a>, NoMemory>
+    ensures { IfOk result (λ made. Makes made (Some (plain.expr plain.chain (join_expr
+        (more_exprs (plain_expr left.tree) (more_exprs (plain_expr right.tree) no_exprs)))))) }
+{
+    let found = Chain::new(alloc, left, right)?;
+    Ok(chained(found))
+}
+
 // An operand behind what stands before a `.`.
 fn linked<'a>(alloc: Global, left: Link, right: Operand) -> Result<Made<'a>, NoMemory>
-    ensures { IfOk result (λ made. (v : plain.Value) → IsLink v left
-        → Makes made (of_two (actions.joined v) (plain.operand_of v) (Some (plain_expr right.tree)))) }
+    ensures { (v : plain.Value) → IsLink v left → IfOk result (λ made.
+        Makes made (of_two (actions.joined v) (plain.operand_of v) (Some (plain_expr right.tree)))) }
 {
     match left {
-        Link::Chain(chain) => {
-            let found = chain.with(right)?;
-            Ok(chained(found))
-        }
-        Link::Operand(operand) => {
-            let found = Chain::new(alloc, operand, right)?;
-            Ok(chained(found))
-        }
+        Link::Chain(chain) => chain_grown(chain, right),
+        Link::Operand(operand) => chain_begun(alloc, operand, right),
     }
 }
 
@@ -177,12 +202,41 @@ pub(crate) fn prefixed<'a>(
     let Some(operator) = prefix_of(sign) else {
         return Ok(Made::Nothing);
     };
+    by_prefix(alloc, operator, value)
+}
+
+// An operand by an operator before it.
+fn by_prefix<'a>(
+    alloc: Global,
+    operator: Prefix,
+    value: Value<'a>,
+) -> Result<Made<'a>, NoMemory>
+    ensures { IfOk result (λ made. Makes made (actions.prefixed operator (plain_value value.entry))) }
+{
     match operator {
         Prefix::Neg => negative(alloc, value),
         Prefix::Not => behind_prefix(alloc, Prefix::Not, value),
         Prefix::CastInt => behind_prefix(alloc, Prefix::CastInt, value),
         Prefix::CastString => behind_prefix(alloc, Prefix::CastString, value),
     }
+}
+
+// A negated integer.
+fn negated_digits<'a>(alloc: Global, number: i64) -> Result<Made<'a>, NoMemory>
+    ensures { IfOk result (λ made. Makes made
+        (Some (plain.expr plain.literal (prefix_tree prefixes.Neg (int_expr number))))) }
+{
+    let built = prefix(alloc, Prefix::Neg, integer(number))?;
+    Ok(literal(built))
+}
+
+// A negated operand.
+fn negated_operand<'a>(alloc: Global, operand: Operand) -> Result<Made<'a>, NoMemory>
+    ensures { IfOk result (λ made. Makes made
+        (Some (plain.expr plain.usual (prefix_tree prefixes.Neg (plain_expr operand.tree))))) }
+{
+    let built = prefix(alloc, Prefix::Neg, operand)?;
+    Ok(usual(built))
 }
 
 // An operand by `-`: a negated integer is a literal.
@@ -193,14 +247,8 @@ fn negative<'a>(alloc: Global, value: Value<'a>) -> Result<Made<'a>, NoMemory>
         return Ok(Made::Nothing);
     };
     match negated {
-        Negated::Digits(number) => {
-            let built = prefix(alloc, Prefix::Neg, integer(number))?;
-            Ok(literal(built))
-        }
-        Negated::Operand(operand) => {
-            let built = prefix(alloc, Prefix::Neg, operand)?;
-            Ok(usual(built))
-        }
+        Negated::Digits(number) => negated_digits(alloc, number),
+        Negated::Operand(operand) => negated_operand(alloc, operand),
     }
 }
 

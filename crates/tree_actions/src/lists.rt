@@ -149,16 +149,31 @@ pub(crate) fn called<'a>(
     let Some(name) = function_name(alloc, &name)? else {
         return Ok(Made::Nothing);
     };
-    let Some(mut arguments) = arguments.arguments() else {
+    let Some(arguments) = arguments.arguments() else {
         return Ok(Made::Nothing);
     };
-    if is_escape(&name) && is_spelled_out(arguments.as_slice()) {
-        arguments.truncate(1);
-    }
-    let Some(row) = given(alloc, arguments)? else {
+    let left = needed(&name, arguments);
+    let Some(row) = given(alloc, left)? else {
         return Ok(Made::Nothing);
     };
     Ok(usual(call(name, row)))
+}
+
+// The arguments of a call without those that say what is so anyway.
+fn needed<'a>(name: &Bytes, arguments: Vec<Argument<'a>>) -> Vec<Argument<'a>>
+    ensures { actions.given_exprs (map plain_argument result.items)
+        ≡ (if escapes name.now then actions.escaped_expr (map plain_argument arguments.entry.items)
+        else actions.given_exprs (map plain_argument arguments.entry.items)) }
+{
+    if !is_escape(name) {
+        return arguments;
+    }
+    if !is_spelled_out(arguments.as_slice()) {
+        return arguments;
+    }
+    let mut first = arguments;
+    first.truncate(1);
+    first
 }
 
 // Whether a name is that of `htmlspecialchars`.

@@ -1,12 +1,12 @@
 //! What the rules of literals, of constants and of what stands alone make of values.
 
-ghost use Rattle.std.specs.Prelude.{◌≡◌, ◌∷◌, [], Some, None, IfOk};
+ghost use Rattle.std.specs.Prelude.{◌≡◌, ◌∷◌, [], Some, None, IfOk, codes};
 ghost use Rattle.std.specs.Option.{option_map};
-ghost use Rattle.php_syntax.specs.Trees.{plain_expr, flag_expr, null_expr, text_expr};
+ghost use Rattle.php_syntax.specs.Trees.{plain_expr, flag_expr, null_expr, text_expr, maybe_of};
 ghost use Rattle.script_grammar.specs.Statements.{printed, is_include};
 ghost use Rattle.script_grammar.specs.Expressions.{constant_of as constant_tree};
 ghost use Rattle.script_grammar.specs.Rules.{is_utf8};
-ghost use Rattle.script_grammar.specs.Terminals.{keyword_of};
+ghost use Rattle.script_grammar.specs.Terminals.{keyword_of, same_bytes};
 ghost use Rattle.php_trees.specs.Values as plain;
 ghost use Rattle.php_trees.specs.Actions as actions;
 ghost use Rattle.php_trees.specs.Actions.{and_then};
@@ -34,7 +34,10 @@ pub(crate) fn literal_value<'a>(alloc: Global, token: Value<'a>) -> Result<Made<
     match kind {
         TokenKind::Int(number) => Ok(Made::Value(Value::Expr(Spelled::Digits(*number)))),
         TokenKind::Str(text) => Ok(Made::Value(Value::Expr(Spelled::Quoted(text)))),
-        TokenKind::Template(parts) => Ok(usual(template(alloc, parts.as_slice())?)),
+        TokenKind::Template(parts) => {
+            let built = template(alloc, parts.as_slice())?;
+            Ok(usual(built))
+        }
         TokenKind::Inline(_) | TokenKind::Var(_) => Ok(Made::Nothing),
         TokenKind::Name(_) | TokenKind::Sign(_) => Ok(Made::Nothing),
     }
@@ -71,16 +74,49 @@ fn line_end(alloc: Global) -> Result<Operand, NoMemory>
 fn constant_of<'a>(alloc: Global, word: Keyword) -> Result<Made<'a>, NoMemory>
     ensures { IfOk result (λ made. Makes made (option_map (plain.expr (actions.constant_spelling word)) (constant_tree word))) }
 {
-    let spelled = match word {
-        Keyword::True => Spelled::Literal(flag(true)),
-        Keyword::False => Spelled::Literal(flag(false)),
-        Keyword::Null => Spelled::Literal(null()),
-        Keyword::PhpEol => Spelled::Usual(line_end(alloc)?),
-        Keyword::PhpIntMax => Spelled::Usual(integer(i64::MAX)),
-        Keyword::PhpIntMin => Spelled::Usual(integer(i64::MIN)),
-        _ => return Ok(Made::Nothing),
-    };
-    Ok(Made::Value(Value::Expr(spelled)))
+    match word {
+        Keyword::True => Ok(literal(flag(true))),
+        Keyword::False => Ok(literal(flag(false))),
+        Keyword::Null => Ok(literal(null())),
+        Keyword::PhpEol => {
+            let end = line_end(alloc)?;
+            Ok(usual_constant(end))
+        }
+        Keyword::PhpIntMax => Ok(usual_constant(integer(i64::MAX))),
+        Keyword::PhpIntMin => Ok(usual_constant(integer(i64::MIN))),
+        _ => Ok(Made::Nothing),
+    }
+}
+
+// An expression that may be a default of a parameter.
+fn literal<'a>(operand: Operand) -> Made<'a>
+    ensures { Makes result (Some (plain.expr plain.literal (plain_expr operand.tree))) }
+{
+    Made::Value(Value::Expr(Spelled::Literal(operand)))
+}
+
+// Another expression.
+fn usual_constant<'a>(operand: Operand) -> Made<'a>
+    ensures { Makes result (Some (plain.expr plain.usual (plain_expr operand.tree))) }
+{
+    Made::Value(Value::Expr(Spelled::Usual(operand)))
+}
+
+// Whether a name is that of the constant `ENT_QUOTES`.
+fn is_quotes(name: &[u8]) -> bool
+    ensures { result ≡ same_bytes name.now (codes "ENT_QUOTES") }
+{
+    name == b"ENT_QUOTES".as_slice()
+}
+
+// A constant whose name is no keyword.
+fn other_constant<'a>(name: &[u8]) -> Made<'a>
+    ensures { Makes result (actions.constant_value None name.now) }
+{
+    if is_quotes(name) {
+        return Made::Value(Value::Quotes);
+    }
+    Made::Nothing
 }
 
 /// A constant by its name.
@@ -91,16 +127,10 @@ pub(crate) fn constant<'a>(alloc: Global, token: Value<'a>) -> Result<Made<'a>, 
     let Some(name) = token.name() else {
         return Ok(Made::Nothing);
     };
-    match keyword_named(name.as_slice()) {
-        Some(word) => constant_of(alloc, word),
-        None => {
-            if name.as_slice() == b"ENT_QUOTES".as_slice() {
-                Ok(Made::Value(Value::Quotes))
-            } else {
-                Ok(Made::Nothing)
-            }
-        }
-    }
+    let Some(word) = keyword_named(name.as_slice()) else {
+        return Ok(other_constant(name.as_slice()));
+    };
+    constant_of(alloc, word)
 }
 
 /// What `print` prints.
@@ -120,12 +150,17 @@ pub(crate) fn exit_value<'a>(alloc: Global, value: Value<'a>) -> Result<Made<'a>
     let Some(operand) = value.whole(alloc)? else {
         return Ok(Made::Nothing);
     };
-    let printed = if is_status(&operand.tree) {
-        Optional::none()
-    } else {
-        operand.optional()
-    };
-    Ok(Made::Value(Value::Alone(Alone::Quitting(printed))))
+    Ok(Made::Value(Value::Alone(Alone::Quitting(printed(operand)))))
+}
+
+// What `exit` prints of its operand: nothing of a status.
+fn printed(operand: Operand) -> Optional
+    ensures { maybe_of result.tree ≡ printed (plain_expr operand.tree) }
+{
+    if is_status(&operand.tree) {
+        return Optional::none();
+    }
+    operand.optional()
 }
 
 // Whether bytes are UTF-8.

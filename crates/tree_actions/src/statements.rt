@@ -2,7 +2,7 @@
 
 ghost use Rattle.std.specs.Prelude.{◌≡◌, Some, None, IfOk, codes};
 ghost use Rattle.std.specs.Option.{option_map};
-ghost use Rattle.php_syntax.specs.Trees.{echo_stmt, while_stmt, do_while_stmt, each_stmt, return_stmt, run_stmt, some_expr, no_expr, call_expr, if_stmt, no_arms, more_exprs, no_exprs};
+ghost use Rattle.php_syntax.specs.Trees.{plain_expr, echo_stmt, while_stmt, do_while_stmt, each_stmt, return_stmt, run_stmt, some_expr, no_expr, call_expr, if_stmt, no_arms, more_exprs, no_exprs};
 ghost use Rattle.php_trees.specs.Values as plain;
 ghost use Rattle.php_trees.specs.Actions as actions;
 ghost use Rattle.php_trees.specs.Actions.{of_two, of_three, one_stmt};
@@ -15,7 +15,7 @@ use php_syntax::token::TokenKind;
 use std::alloc::Global;
 use text_base::{Bytes, NoMemory};
 use tree_values::nodes::call;
-use tree_values::trees::{Branch, Optional, Row};
+use tree_values::trees::{Operand, Row};
 use tree_values::value::choices::Statement;
 use tree_values::value::{Alone, Built, Made, Value};
 
@@ -54,15 +54,20 @@ pub(crate) fn echoed<'a>(alloc: Global, exprs: Value<'a>) -> Result<Made<'a>, No
     echo(alloc, row)
 }
 
+// What `print` prints, as an `echo`.
+fn printing<'a>(alloc: Global, operand: Operand) -> Result<Made<'a>, NoMemory>
+    ensures { IfOk result (λ made. Makes made (Some (one_stmt (echo_stmt (more_exprs (plain_expr operand.tree) no_exprs))))) }
+{
+    let row = Row::empty(alloc).with(operand)?;
+    echo(alloc, row)
+}
+
 // What is a statement alone.
 fn alone<'a>(alloc: Global, found: Alone<'a>) -> Result<Made<'a>, NoMemory>
     ensures { IfOk result (λ made. Makes made (actions.run_of (plain_alone found.entry))) }
 {
     match found {
-        Alone::Printing(operand) => {
-            let row = Row::empty(alloc).with(operand)?;
-            echo(alloc, row)
-        }
+        Alone::Printing(operand) => printing(alloc, operand),
         Alone::Including(included) => include(alloc, included),
         Alone::Quitting(printed) => quit(alloc, printed),
     }

@@ -1,0 +1,18 @@
+use Rattle.std.proofs.Common.{refl, ap, subst}
+use Rattle.std.specs.Prelude.{IfOk, Some, None}
+use Rattle.php_trees.specs.Actions.{constant_value}
+use Rattle.tree_values.specs.Shown.{plain_value, Makes}
+use Rattle.tree_actions.proofs.TextLemmas.{constant_is}
+use Rattle.tree_actions.proofs.literals.constant.Goals as goal
+
+pub returns-in_default : goal.returns-in_default
+returns-in_default c = rw c.in_default.ensures refl
+
+pub returns-in_default-keyword_named : goal.returns-in_default-keyword_named
+returns-in_default-keyword_named c =
+    let made = subst (λ w. Makes c.other_constant.result (constant_value None w)) c.as_slice-2.ensures c.other_constant.ensures in
+    subst (Makes c.other_constant.result) (constant_is (plain_value c.args.token) c.in-Some.name.now c.as_slice.result.now None c.in-Some.ensures c.as_slice.ensures c.in_default-keyword_named.ensures) made
+
+pub returns : goal.returns
+returns c =
+    subst (λ o. IfOk c.constant_of.result (λ made. Makes made o)) (constant_is (plain_value c.args.token) c.in-Some.name.now c.as_slice.result.now (Some c.in-Some-keyword_named.word) c.in-Some.ensures c.as_slice.ensures c.in-Some-keyword_named.ensures) c.constant_of.ensures
