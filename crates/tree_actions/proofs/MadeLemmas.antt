@@ -45,6 +45,7 @@ module _ {A B C : Type 0} where
 
   pub then_some : (m : Made) (a : Option A) (f : A → Option Value) (x : A) → a ≡ Some x → Makes m (f x) → Makes m (and_then a f)
   then_some m a f x e h = subst (Makes m) (sym (ap (λ (o : Option A). and_then o f) e)) h
+
   -- of two parts, where the second is not there
   pub second_none : (f : A → B → Value) (a : Option A) (b : Option B) → b ≡ None → of_two f a b ≡ None
   second_none f None b e = refl

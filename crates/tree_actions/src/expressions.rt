@@ -206,11 +206,7 @@ pub(crate) fn prefixed<'a>(
 }
 
 // An operand by an operator before it.
-fn by_prefix<'a>(
-    alloc: Global,
-    operator: Prefix,
-    value: Value<'a>,
-) -> Result<Made<'a>, NoMemory>
+fn by_prefix<'a>(alloc: Global, operator: Prefix, value: Value<'a>) -> Result<Made<'a>, NoMemory>
     ensures { IfOk result (λ made. Makes made (actions.prefixed operator (plain_value value.entry))) }
 {
     match operator {

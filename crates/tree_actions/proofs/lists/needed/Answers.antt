@@ -17,4 +17,4 @@ pub returns : goal.returns
 returns c =
     let out = ap (λ gs. is_spelled_out (map plain_argument gs)) (sym c.as_slice.ensures.value) ∙ sym c.is_spelled_out.ensures ∙ c.if-not-is_spelled_out.false in
     rw (sym c.is_escape.ensures ∙ c.if-not-is_escape.false)
-    (ap (λ gs. given_exprs (map plain_argument gs)) c.truncate.ensures ∙ ap given_exprs (take_shown c.args.arguments.items) ∙ escaped_first (map plain_argument c.args.arguments.items) out)
+    (ap (λ gs. given_exprs (map plain_argument gs)) c.truncate.ensures.items ∙ ap given_exprs (take_shown c.args.arguments.items) ∙ escaped_first (map plain_argument c.args.arguments.items) out)

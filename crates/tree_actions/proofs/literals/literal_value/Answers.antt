@@ -23,4 +23,4 @@ pub returns-in-Template : goal.returns-in-Template
 returns-in-Template c =
     let token = rw c.in-Template.is at c.in-Some.ensures in
     let built = subst (λ ps. Builds c.in_ok-built.built (join_expr (part_trees (map plain_part_of ps)))) c.as_slice.ensures.value c.in_ok-built.ensures in
-    rw token (c.usual.ensures (join_expr (part_trees (map plain_part_of c.in-Template.parts.now.items))) built)
+    rw token (c.usual.ensures (join_expr (part_trees (map plain_part_of c.in-Template.parts.items))) built)
