@@ -11,8 +11,7 @@ ghost use Rattle.tree_values.specs.Shown.{plain_value, Makes};
 
 use std::alloc::Global;
 use text_base::NoMemory;
-use text_base::limits::HEIGHT_LIMIT;
-use tree_values::trees::{Arms, Body, Branch, Operand};
+use tree_values::trees::{Body, Branch, Operand};
 use tree_values::value::{Made, Value};
 
 // An arm before others, which may go on.

@@ -12,16 +12,14 @@ ghost use Rattle.php_trees.specs.Actions as actions;
 ghost use Rattle.php_trees.specs.Actions.{of_two, of_three, part_and, function_and, parameter_of};
 ghost use Rattle.tree_values.specs.Shown.{plain_value, Makes};
 
-use indexmap::IndexSet;
-use php_syntax::tree::{FileTree, FunctionDef, Param};
+use php_syntax::tree::{FileTree, FunctionDef};
 use script_grammar::keyword::keyword_named;
-use script_grammar::reserved::is_writable;
 use std::alloc::Global;
 use text_base::limits::HEIGHT_LIMIT;
 use text_base::{Bytes, NoMemory};
 use tree_values::params::Named;
-use tree_values::trees::{Body, File, Function, Optional, Params};
-use tree_values::value::{Made, Spelled, Value};
+use tree_values::trees::{Body, File, Function, Params};
+use tree_values::value::{Made, Value};
 
 /// The name of a function, in lower case, unless it is a keyword of the language.
 pub(crate) fn function_name(alloc: Global, token: &Value) -> Result<Option<Bytes>, NoMemory>

@@ -16,8 +16,8 @@ use std::alloc::Global;
 use text_base::{Bytes, NoMemory};
 use tree_values::arguments::{given, is_spelled_out};
 use tree_values::nodes::{array, call};
-use tree_values::trees::{Items, Operand, Optional, Row};
-use tree_values::value::{Argument, Made, Spelled, Value};
+use tree_values::trees::{Items, Optional, Row};
+use tree_values::value::{Argument, Made, Value};
 
 /// The first expression of a row.
 pub(crate) fn first_expression<'a>(alloc: Global, value: Value<'a>) -> Result<Made<'a>, NoMemory>

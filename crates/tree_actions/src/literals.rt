@@ -127,8 +127,9 @@ pub(crate) fn constant<'a>(alloc: Global, token: Value<'a>) -> Result<Made<'a>, 
     let Some(name) = token.name() else {
         return Ok(Made::Nothing);
     };
-    let Some(word) = keyword_named(name.as_slice()) else {
-        return Ok(other_constant(name.as_slice()));
+    let bytes = name.as_slice();
+    let Some(word) = keyword_named(bytes) else {
+        return Ok(other_constant(bytes));
     };
     constant_of(alloc, word)
 }

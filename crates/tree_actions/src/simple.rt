@@ -15,7 +15,7 @@ use script_grammar::reserved::is_writable;
 use std::alloc::Global;
 use text_base::limits::HEIGHT_LIMIT;
 use text_base::{Bytes, NoMemory};
-use tree_values::trees::{Body, Branch, Included, Operand, Optional, Row};
+use tree_values::trees::{Body, Included, Operand, Optional, Row};
 use tree_values::value::{Made, Value};
 
 /// One statement, whose highest part is so high, unless it is over 200 high.

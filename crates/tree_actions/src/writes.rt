@@ -14,7 +14,7 @@ use script_grammar::operator::{step_of, update_of};
 use std::alloc::Global;
 use text_base::{Bytes, NoMemory};
 use tree_values::nodes::{assign, call, empty, isset, member, step, update};
-use tree_values::trees::{Operand, Optional, Place, Row};
+use tree_values::trees::{Optional, Place, Row};
 use tree_values::value::choices::Base;
 use tree_values::value::{Made, Value};
 

@@ -14,8 +14,8 @@ returns-then-needs_loop c = (refl, looping_part (plain_file c.args.file.tree) (s
 pub returns-then-needs_function : goal.returns-then-needs_function
 returns-then-needs_function c = (refl, returning_part (plain_file c.args.file.tree) (stmts_of c.args.body.stmts.items) c.args.body.needs_loop c.args.body.needs_function c.args.body.fits c.if-needs_function.true)
 
-pub returns-then-height-geHEIGHT_LIMIT : goal.returns-then-height-geHEIGHT_LIMIT
-returns-then-height-geHEIGHT_LIMIT c = high_part (plain_file c.args.file.tree) (stmts_of c.args.body.stmts.items) c.args.body.needs_loop c.args.body.needs_function c.args.file.fits c.args.body.fits c.if-needs_loop.false c.if-needs_function.false (omega (arith, c.args.body.high, c.if-height-geHEIGHT_LIMIT.true))
+pub returns-then-height-ge-HEIGHT_LIMIT : goal.returns-then-height-ge-HEIGHT_LIMIT
+returns-then-height-ge-HEIGHT_LIMIT c = high_part (plain_file c.args.file.tree) (stmts_of c.args.body.stmts.items) c.args.body.needs_loop c.args.body.needs_function c.args.file.fits c.args.body.fits c.if-needs_loop.false c.if-needs_function.false (omega (arith, c.args.body.high, c.if-height-ge-HEIGHT_LIMIT.true))
 
 pub invariant_of-made : goal.invariant_of-made
 invariant_of-made c =
@@ -26,7 +26,7 @@ invariant_of-made c =
       high = omega (arith, ap stmts_height all, stmts_append_high (stmts_of old) (stmts_of others), c.args.file.high, c.args.body.high, c.max-height.ensures);
       fits = ap (λ (ss : PlainStmts). stmts_fit false false ss && functions_fit (functions_of_list c.args.file.tree.functions.items)) all
           ∙ part_keeps (plain_file c.args.file.tree) (stmts_of c.args.body.stmts.items) c.args.body.needs_loop c.args.body.needs_function c.args.file.fits c.args.body.fits c.if-needs_loop.false c.if-needs_function.false;
-      within = omega (arith, c.args.file.within, c.if-height-geHEIGHT_LIMIT.false, c.max-height.ensures);
+      within = omega (arith, c.args.file.within, c.if-height-ge-HEIGHT_LIMIT.false, c.max-height.ensures);
     }
 
 pub returns : goal.returns
