@@ -7,7 +7,7 @@ use Rattle.php_syntax.specs.Height.{height, maybe_height, exprs_height, items_he
 use Rattle.script_grammar.specs.Rules.{expr_fits, maybe_fits, exprs_fit, items_fit}
 use Rattle.php_trees.specs.Values.{exprs_and, items_and, exprs, condition_of}
 use Rattle.tree_values.proofs.NodeLemmas.{both, first_of, second_of}
-use Rattle.tree_values.proofs.OptionLemmas.{no_items}
+use Rattle.tree_values.proofs.OptionLemmas.{no_items as none_left}
 
 -- a row with one more expression
 abbrev pub and_expr : PlainExprs → PlainExpr → PlainExprs
@@ -64,9 +64,10 @@ abbrev pub row_of : Option Expr → PlainExprs
 row_of None = no_exprs
 row_of (Some e) = more_exprs (plain_expr e) no_exprs
 
-pub only_of : (es front : List Expr) (o : Option Expr) → es ≡ front ++ option_to_list o → MatchOption o ((length es ≡ 0) × (length front ≡ 0)) (λ _. length front + 1 ≡ length es) → length es ≤ 1 → exprs_of es ≡ row_of o
-only_of es front None items cases few = ap exprs_of (no_items es cases.0)
-only_of es front (Some e) items cases few = ap exprs_of (items ∙ ap (λ (fs : List Expr). fs ++ e ∷ []) (no_items front (omega (arith, cases, few))))
+pub only_of : (es front : List Expr) (o : Option Expr) (n m : ℕ) → es ≡ front ++ option_to_list o → MatchOption o ((n ≡ 0) × (m ≡ 0)) (λ _. m + 1 ≡ n) → n ≡ length es → m ≡ length front → length es ≤ 1 → exprs_of es ≡ row_of o
+only_of es front None n m items cases all before few = ap exprs_of (none_left es (sym all ∙ cases.0))
+only_of es front (Some e) n m items cases all before few =
+    let more : m + 1 ≡ n = cases in ap exprs_of (items ∙ ap (λ (fs : List Expr). fs ++ e ∷ []) (none_left front (omega (arith, more, all, before, few))))
 
 pub row_condition : (o : Option Expr) → condition_of (exprs (row_of o)) ≡ Some (maybe_of o)
 row_condition None = refl

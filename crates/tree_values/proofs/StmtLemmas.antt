@@ -77,7 +77,7 @@ one_stmt_fits s nl nf h l f = last (stmt_fits l f s) ∙ h l f
     last true = refl
     last false = refl
 
-append_fit : (ss ts : PlainStmts) (l f : Bool) → stmts_fit l f (stmts_and ss ts) ≡ (stmts_fit l f ss && stmts_fit l f ts)
+pub append_fit : (ss ts : PlainStmts) (l f : Bool) → stmts_fit l f (stmts_and ss ts) ≡ (stmts_fit l f ss && stmts_fit l f ts)
 unfolding stmt_fits
 append_fit no_stmts ts l f = refl
 append_fit (more_stmts s ss) ts l f = ap (λ (b : Bool). stmt_fits l f s && b) (append_fit ss ts l f) ∙ and_moved (stmt_fits l f s) (stmts_fit l f ss) (stmts_fit l f ts)
