@@ -15,16 +15,16 @@ returns-in_default-2 c =
     let none = rw is at c.in_ok-body.ensures in
     rw (h0, none) refl
 
-pub returns-in_default-branch : goal.returns-in_default-branch
-returns-in_default-branch c =
+pub returns-in_default-rest : goal.returns-in_default-rest
+returns-in_default-rest c =
     let h0 = rw c.in-Some.is at c.in_ok-condition.ensures in
     let h1 = rw c.in-Some-2.is at c.in_ok-body.ensures in
-    let none = c.in_default-branch.ensures in
+    let none = c.in_default-rest.ensures in
     rw (h0, h1, none) refl
 
 pub returns : goal.returns
 returns c =
     let h0 = rw c.in-Some.is at c.in_ok-condition.ensures in
     let h1 = rw c.in-Some-2.is at c.in_ok-body.ensures in
-    let h2 = c.in-Some-branch.ensures in
+    let h2 = c.in_Some-rest.ensures in
     rw (h0, h1, h2) (c.added.ensures)

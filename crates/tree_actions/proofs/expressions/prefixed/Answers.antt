@@ -7,8 +7,8 @@ use Rattle.tree_actions.proofs.expressions.prefixed.Goals as goal
 pub returns-in_default : goal.returns-in_default
 returns-in_default c = rw (sym c.in_default.ensures) refl
 
-pub returns-in_default-prefix_of : goal.returns-in_default-prefix_of
-returns-in_default-prefix_of c = sym (prefix_is (plain_value c.args.sign) (plain_value c.args.value) c.in-Some.sign None c.in-Some.ensures c.in_default-prefix_of.ensures)
+pub returns-in_default-operator : goal.returns-in_default-operator
+returns-in_default-operator c = sym (prefix_is (plain_value c.args.sign) (plain_value c.args.value) c.in-Some.sign None c.in-Some.ensures c.in_default-operator.ensures)
 
 pub returns : goal.returns
-returns c = subst (λ o. IfOk c.by_prefix.result (λ made. Makes made o)) (prefix_is (plain_value c.args.sign) (plain_value c.args.value) c.in-Some.sign (Some c.in-Some-prefix_of.operator) c.in-Some.ensures c.in-Some-prefix_of.ensures) c.by_prefix.ensures
+returns c = subst (λ o. IfOk c.by_prefix.result (λ made. Makes made o)) (prefix_is (plain_value c.args.sign) (plain_value c.args.value) c.in-Some.sign (Some c.in_Some-operator.operator) c.in-Some.ensures c.in_Some-operator.ensures) c.by_prefix.ensures

@@ -17,7 +17,7 @@ returns-in_default-params c =
 pub returns-in_default-3 : goal.returns-in_default-3
 returns-in_default-3 c =
     let h0 = rw c.in-Some.is at c.in_ok-name.ensures in
-    let h1 = c.in-Some-params.ensures in
+    let h1 = c.in_Some-params.ensures in
     let is = none_of c.in_ok-body.field-0 c.in_default-3.not-Some in
     let none = rw is at c.in_ok-body.ensures in
     rw (sym h0, h1, none) refl
@@ -25,6 +25,6 @@ returns-in_default-3 c =
 pub returns : goal.returns
 returns c =
     let h0 = rw c.in-Some.is at c.in_ok-name.ensures in
-    let h1 = c.in-Some-params.ensures in
+    let h1 = c.in_Some-params.ensures in
     let h2 = rw c.in-Some-3.is at c.in_ok-body.ensures in
     rw (sym h0, h1, h2) (c.function_made.ensures)

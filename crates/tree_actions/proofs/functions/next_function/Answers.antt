@@ -10,4 +10,4 @@ pub returns-in_default-function : goal.returns-in_default-function
 returns-in_default-function c = c.in_default-function.ensures (file_of (plain_value c.args.before))
 
 pub returns : goal.returns
-returns c = rw (c.in-Some.ensures, c.in-Some-function.ensures) c.function_added.ensures
+returns c = rw (c.in-Some.ensures, c.in_Some-function.ensures) c.function_added.ensures

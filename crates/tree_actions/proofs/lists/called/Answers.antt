@@ -22,11 +22,11 @@ returns-in_default-3 c =
     let h0 = rw c.in-Some.is at c.in_ok-name.ensures in
     let is = none_of c.in_ok-row.field-0 c.in_default-3.not-Some in
     let none = rw is at c.in_ok-row.ensures in
-    call_none (plain_value c.args.name) (plain_value c.args.arguments) c.in-Some.name (map plain_argument c.in-Some-arguments.arguments.items) h0 c.in-Some-arguments.ensures (sym c.needed-left.ensures ∙ none)
+    call_none (plain_value c.args.name) (plain_value c.args.arguments) c.in-Some.name (map plain_argument c.in_Some-arguments.arguments.items) h0 c.in_Some-arguments.ensures (sym c.needed-left.ensures ∙ none)
 
 pub returns : goal.returns
 returns c =
     let h0 = rw c.in-Some.is at c.in_ok-name.ensures in
     let row = rw c.in-Some-3.is at c.in_ok-row.ensures in
-    call_some c.usual.result (plain_value c.args.name) (plain_value c.args.arguments) c.in-Some.name (map plain_argument c.in-Some-arguments.arguments.items) (exprs_of c.in-Some-3.row.exprs.items) h0 c.in-Some-arguments.ensures (sym c.needed-left.ensures ∙ row)
+    call_some c.usual.result (plain_value c.args.name) (plain_value c.args.arguments) c.in-Some.name (map plain_argument c.in_Some-arguments.arguments.items) (exprs_of c.in-Some-3.row.exprs.items) h0 c.in_Some-arguments.ensures (sym c.needed-left.ensures ∙ row)
     (c.usual.ensures (call_expr c.in-Some.name (exprs_of c.in-Some-3.row.exprs.items)) c.call.ensures)

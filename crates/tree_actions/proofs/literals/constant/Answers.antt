@@ -8,11 +8,11 @@ use Rattle.tree_actions.proofs.literals.constant.Goals as goal
 pub returns-in_default : goal.returns-in_default
 returns-in_default c = rw c.in_default.ensures refl
 
-pub returns-in_default-keyword_named : goal.returns-in_default-keyword_named
-returns-in_default-keyword_named c =
+pub returns-in_default-word : goal.returns-in_default-word
+returns-in_default-word c =
     let made = subst (λ w. Makes c.other_constant.result (constant_value None w)) c.as_slice-bytes.ensures c.other_constant.ensures in
-    subst (Makes c.other_constant.result) (constant_is (plain_value c.args.token) c.in-Some.name.now c.as_slice-bytes.result.now None c.in-Some.ensures c.as_slice-bytes.ensures c.in_default-keyword_named.ensures) made
+    subst (Makes c.other_constant.result) (constant_is (plain_value c.args.token) c.in-Some.name.now c.as_slice-bytes.result.now None c.in-Some.ensures c.as_slice-bytes.ensures c.in_default-word.ensures) made
 
 pub returns : goal.returns
 returns c =
-    subst (λ o. IfOk c.constant_of.result (λ made. Makes made o)) (constant_is (plain_value c.args.token) c.in-Some.name.now c.as_slice-bytes.result.now (Some c.in-Some-keyword_named.word) c.in-Some.ensures c.as_slice-bytes.ensures c.in-Some-keyword_named.ensures) c.constant_of.ensures
+    subst (λ o. IfOk c.constant_of.result (λ made. Makes made o)) (constant_is (plain_value c.args.token) c.in-Some.name.now c.as_slice-bytes.result.now (Some c.in_Some-word.word) c.in-Some.ensures c.as_slice-bytes.ensures c.in_Some-word.ensures) c.constant_of.ensures

@@ -16,17 +16,17 @@ returns-in_default-2 c =
     let none = rw is at c.in_ok-array.ensures in
     rw (h0, none) refl
 
-pub returns-in_default-variable : goal.returns-in_default-variable
-returns-in_default-variable c =
+pub returns-in_default-key : goal.returns-in_default-key
+returns-in_default-key c =
     let h0 = c.in-Some.ensures in
     let h1 = rw c.in-Some-2.is at c.in_ok-array.ensures in
-    rw (h0, h1, c.in_default-variable.ensures) refl
+    rw (h0, h1, c.in_default-key.ensures) refl
 
 pub returns-in_default-4 : goal.returns-in_default-4
 returns-in_default-4 c =
     let h0 = c.in-Some.ensures in
     let h1 = rw c.in-Some-2.is at c.in_ok-array.ensures in
-    let h2 = c.in-Some-variable.ensures in
+    let h2 = c.in_Some-key.ensures in
     let is = none_of c.in_ok-body.field-0 c.in_default-4.not-Some in
     let none = rw is at c.in_ok-body.ensures in
     rw (h0, h1, h2, none) refl
@@ -35,7 +35,7 @@ pub returns : goal.returns
 returns c =
     let h0 = c.in-Some.ensures in
     let h1 = rw c.in-Some-2.is at c.in_ok-array.ensures in
-    let h2 = c.in-Some-variable.ensures in
+    let h2 = c.in_Some-key.ensures in
     let h3 = rw c.in-Some-4.is at c.in_ok-body.ensures in
     let made = subst (λ x. IfOk c.each_loop.result (λ made. Makes made (Some (one_stmt (each_stmt (plain_expr c.in-Some-2.array.tree) (Some c.in_ok-key.key) x (stmts_of c.in-Some-4.body.stmts.items)))))) c.in_ok-value.ensures c.each_loop.ensures in
     let keyed = subst (λ k. IfOk c.each_loop.result (λ made. Makes made (Some (one_stmt (each_stmt (plain_expr c.in-Some-2.array.tree) (Some k) c.in-Some.value.now (stmts_of c.in-Some-4.body.stmts.items)))))) c.in_ok-key.ensures made in
