@@ -1,0 +1,24 @@
+use Rattle.std.proofs.Common.{refl}
+use Rattle.tree_values.proofs.OptionLemmas.{none_of}
+use Rattle.php_syntax.specs.Trees.{plain_expr}
+use Rattle.script_grammar.specs.Expressions.{operator_tree}
+use Rattle.tree_actions.proofs.expressions.operated.Goals as goal
+
+pub returns-in_default : goal.returns-in_default
+returns-in_default c =
+    let is = none_of c.in_ok-left.field-0 c.in_default.not-Some in
+    let none = rw is at c.in_ok-left.ensures in
+    rw none refl
+
+pub returns-in_default-2 : goal.returns-in_default-2
+returns-in_default-2 c =
+    let h0 = rw c.in-Some.is at c.in_ok-left.ensures in
+    let is = none_of c.in_ok-right.field-0 c.in_default-2.not-Some in
+    let none = rw is at c.in_ok-right.ensures in
+    rw (h0, none) refl
+
+pub returns : goal.returns
+returns c =
+    let h0 = rw c.in-Some.is at c.in_ok-left.ensures in
+    let h1 = rw c.in-Some-2.is at c.in_ok-right.ensures in
+    rw (h0, h1) (c.usual.ensures (operator_tree c.args.operator (plain_expr c.in-Some.left.tree) (plain_expr c.in-Some-2.right.tree)) c.in_ok-built.ensures)

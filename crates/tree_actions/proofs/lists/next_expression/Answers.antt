@@ -1,0 +1,21 @@
+use Rattle.std.proofs.Common.{refl, sym}
+use Rattle.tree_values.proofs.OptionLemmas.{none_of}
+use Rattle.tree_actions.proofs.lists.next_expression.Goals as goal
+
+pub returns-in_default : goal.returns-in_default
+returns-in_default c =
+    let none = c.in_default.ensures in
+    rw none refl
+
+pub returns-in_default-2 : goal.returns-in_default-2
+returns-in_default-2 c =
+    let h0 = c.in-Some.ensures in
+    let is = none_of c.in_ok-operand.field-0 c.in_default-2.not-Some in
+    let none = rw is at c.in_ok-operand.ensures in
+    rw (h0, none) refl
+
+pub returns : goal.returns
+returns c =
+    let h0 = c.in-Some.ensures in
+    let h1 = rw c.in-Some-2.is at c.in_ok-operand.ensures in
+    rw (h0, h1, sym c.in_ok-all.ensures) (refl)

@@ -1,0 +1,19 @@
+use Rattle.std.proofs.Common.{false, subst, sym, ap, ◌∙◌}
+use Rattle.std.specs.Prelude.{Some, IfOk}
+use Rattle.php_syntax.specs.Height.{stmt_height}
+use Rattle.php_syntax.proofs.Views.{plain_stmt-Inline}
+use Rattle.php_syntax.specs.Trees.{inline_stmt}
+use Rattle.php_trees.specs.Actions.{one_stmt}
+use Rattle.tree_values.specs.Grown.{Fits}
+use Rattle.tree_values.specs.Shown.{Makes}
+use Rattle.tree_values.proofs.StmtLemmas.{inline_fits, inline_high}
+use Rattle.tree_actions.proofs.simple.inline.Goals as goal
+
+pub statement-requires-clause-fits : goal.statement-requires-clause-fits
+statement-requires-clause-fits c = subst (λ s. Fits s false false) (sym (plain_stmt-Inline c.in_ok-copied.copied)) (inline_fits c.in_ok-copied.copied)
+
+pub returns : goal.returns
+returns c = subst (λ s. IfOk c.statement.result (λ made. Makes made (Some (one_stmt s)))) (plain_stmt-Inline c.in_ok-copied.copied ∙ ap inline_stmt c.in_ok-copied.ensures) c.statement.ensures
+
+pub statement-requires-clause-high : goal.statement-requires-clause-high
+statement-requires-clause-high c = ap stmt_height (plain_stmt-Inline c.in_ok-copied.copied) ∙ inline_high c.in_ok-copied.copied

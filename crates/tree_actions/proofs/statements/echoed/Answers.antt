@@ -1,0 +1,12 @@
+use Rattle.std.proofs.Common.{refl}
+use Rattle.tree_actions.proofs.statements.echoed.Goals as goal
+
+pub returns-in_default : goal.returns-in_default
+returns-in_default c =
+    let none = c.in_default.ensures in
+    rw none refl
+
+pub returns : goal.returns
+returns c =
+    let h0 = c.in-Some.ensures in
+    rw h0 (c.echo.ensures)

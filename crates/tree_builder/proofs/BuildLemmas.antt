@@ -1,0 +1,76 @@
+-- What is told of a script when all events were taken.
+use Rattle.std.proofs.Common.{◌≡◌, ℕ, ◌+◌, ◌<◌, ◌≤◌, true, false, List, [], ◌∷◌, map, drop, length, get_or, sym, ap, ◌∙◌, subst, refl, Option, Some, None}
+use Rattle.std.proofs.lemmas.Bool.{false≢true}
+use Rattle.std.proofs.lemmas.List.{drop_more, drop_all}
+use Rattle.lr_tables.specs.declared.event.Event as event
+use Rattle.lr_tables.specs.Grammars.{IsOnly}
+use Rattle.lr_tables.specs.Values.{kinds, HasValue, make}
+use Rattle.lr_tables.proofs.Making.{are_meant}
+use Rattle.php_syntax.specs.Tokens.{PlainToken}
+use Rattle.php_syntax.specs.Trees.{PlainFile, plain_file}
+use Rattle.php_grammar.specs.Php.{php}
+use Rattle.php_trees.specs.Values as values
+use Rattle.script_rules.specs.Parts as plain
+use Rattle.script_rules.specs.Parts.{judged}
+use Rattle.script_rules.specs.Refused.{HasLeftOut, HasHighPart}
+use Rattle.script_rules.proofs.Whole.{one_part, is_read_whole, is_read_as_none}
+use Rattle.tree_builder.specs.declared.builder.Outcome.{Outcome}
+use Rattle.tree_builder.specs.declared.builder.Outcome.TheVariants as outcome
+use Rattle.tree_builder.specs.declared.gathered.Part.{Part}
+use Rattle.tree_builder.specs.Gathered.{plain_part, plain_form}
+use Rattle.tree_builder.specs.Outcomes.{Tells, IsWhole}
+
+some_is : {A : Type 0} {a b : A} → Some a ≡ Some b → a ≡ b
+some_is e = cc
+
+none_some : {A : Type 0} {x : A} {P : Type 0} → None ≡ Some x → P
+none_some e = cc
+
+not_high : (ts : List PlainToken) (p : plain.Part) → HasValue php.grammar judged ts p → p.high ≡ false → HasHighPart ts → ⊥
+not_high ts p has low h = false≢true (sym low ∙ ap (λ (q : plain.Part). q.high) (one_part ts p h.whole has h.derived) ∙ h.is)
+
+whole_tells : (ts : List PlainToken) (p : plain.Part) (o : Outcome) → HasValue php.grammar judged ts p → p.high ≡ false → IsWhole p o → Tells ts o
+whole_tells ts p (outcome.File t) has low is = (is_read_whole ts p (plain_file t) has is.0, is.1, not_high ts p has low)
+whole_tells ts p (outcome.LeftOut l) has low is =
+    let left : HasLeftOut ts (plain_form l) = record { whole = p; derived = has; is = is } in (left, λ tree r. is_read_as_none ts (plain_form l) tree left r, not_high ts p has low)
+whole_tells ts p (outcome.High at) has low is = absurd is
+
+-- nothing is left to take, and one part stands on the stack
+pub all_told : (ts : List PlainToken) (es : List event.Event) (stack rest : List Part) (whole : Part) (o : Outcome) → IsOnly php.grammar (kinds judged ts) es
+    → make php.grammar judged es ts [] ≡ Some (map plain_part stack) → stack ≡ whole ∷ rest → IsWhole (plain_part whole) o → Tells ts o
+all_told ts es stack rest whole o only makes one is =
+    let m = are_meant php.grammar judged ts es (map plain_part stack) only.derived makes in
+    whole_tells ts (plain_part whole) o (subst (HasValue php.grammar judged ts) (sym (first_is (sym (ap (map plain_part) one) ∙ m.1))) m.2) refl is
+  where
+    first_is : {p q : plain.Part} {ps qs : List plain.Part} → p ∷ ps ≡ q ∷ qs → p ≡ q
+    first_is e = cc
+
+-- a value that is a file
+pub file_is : (v : values.Value) (f : PlainFile) → values.file_of v ≡ Some f → v ≡ values.file f
+file_is (values.leaf k) f e = none_some e
+file_is values.absent f e = none_some e
+file_is (values.expr s x) f e = none_some e
+file_is (values.place x ks) f e = none_some e
+file_is values.quotes f e = none_some e
+file_is (values.printing x) f e = none_some e
+file_is (values.including t) f e = none_some e
+file_is (values.quitting m) f e = none_some e
+file_is (values.exprs es) f e = none_some e
+file_is (values.arguments gs) f e = none_some e
+file_is (values.items is hole) f e = none_some e
+file_is (values.stmts ss) f e = none_some e
+file_is (values.branch arms others) f e = none_some e
+file_is (values.params ps) f e = none_some e
+file_is (values.function g) f e = none_some e
+file_is (values.file g) f e = ap values.file (some_is e)
+
+-- an event more
+
+pub next_event : (es : List event.Event) (i : ℕ) (ts rest : List PlainToken) (stack : List plain.Part) (d : event.Event) → i < length es
+    → make php.grammar judged es ts [] ≡ make php.grammar judged (drop i es) rest stack → make php.grammar judged es ts [] ≡ make php.grammar judged (get_or es i d ∷ drop (i + 1) es) rest stack
+next_event es i ts rest stack d lt same = same ∙ ap (λ (fs : List event.Event). make php.grammar judged fs rest stack) (drop_more es i d lt)
+
+pub no_event : (es : List event.Event) (i : ℕ) (ts rest : List PlainToken) (stack : List plain.Part) → length es ≤ i
+    → make php.grammar judged es ts [] ≡ make php.grammar judged (drop i es) rest stack → make php.grammar judged es ts [] ≡ Some stack
+unfolding make
+no_event es i ts rest stack le same = same ∙ ap (λ (fs : List event.Event). make php.grammar judged fs rest stack) (drop_all i es le)

@@ -1,0 +1,4 @@
+pub mod Grown
+pub mod Shown
+pub mod Outsides
+pub mod Named
