@@ -23,7 +23,7 @@ pub struct Right<'a> {
 
 impl<'a> Right<'a> {
     /// No values.
-    pub(crate) fn empty() -> Right<'a>
+    pub fn empty() -> Right<'a>
         ensures { (place : _) → plain_right result ≡ behind place [] }
     {
         Right {
@@ -41,7 +41,7 @@ impl<'a> Right<'a> {
     }
 
     /// Puts a value at a place, from 0 on, before which there is none.
-    pub(crate) fn put(&mut self, place: usize, value: Value<'a>)
+    pub fn put(&mut self, place: usize, value: Value<'a>)
         requires { place < 10 }
         ensures { (vs : _) → plain_right self.old ≡ behind (place + 1) vs
             → plain_right self.new ≡ behind place (plain_value value.entry ∷ vs) }

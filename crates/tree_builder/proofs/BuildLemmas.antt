@@ -6,7 +6,7 @@ use Rattle.lr_tables.specs.declared.event.Event as event
 use Rattle.lr_tables.specs.Grammars.{IsOnly}
 use Rattle.lr_tables.specs.Values.{kinds, HasValue, make}
 use Rattle.lr_tables.proofs.Making.{are_meant}
-use Rattle.php_syntax.specs.Tokens.{PlainToken}
+use Rattle.php_syntax.specs.Tokens.{PlainToken, plain_tokens}
 use Rattle.php_syntax.specs.Trees.{PlainFile, plain_file}
 use Rattle.php_grammar.specs.Php.{php}
 use Rattle.php_trees.specs.Values as values
@@ -14,6 +14,11 @@ use Rattle.script_rules.specs.Parts as plain
 use Rattle.script_rules.specs.Parts.{judged}
 use Rattle.script_rules.specs.Refused.{HasLeftOut, HasHighPart}
 use Rattle.script_rules.proofs.Whole.{one_part, is_read_whole, is_read_as_none}
+use Rattle.script_rules.proofs.High.{high_stays}
+use Rattle.tree_builder.specs.declared.builder.Builder.{Builder}
+use Rattle.tree_builder.specs.declared.builder.Step.{Step}
+use Rattle.tree_builder.specs.declared.builder.Step.TheVariants as step
+use Rattle.tree_builder.specs.Steps.{Steps}
 use Rattle.tree_builder.specs.declared.builder.Outcome.{Outcome}
 use Rattle.tree_builder.specs.declared.builder.Outcome.TheVariants as outcome
 use Rattle.tree_builder.specs.declared.gathered.Part.{Part}
@@ -66,11 +71,27 @@ file_is (values.file g) f e = ap values.file (some_is e)
 
 -- an event more
 
-pub next_event : (es : List event.Event) (i : ℕ) (ts rest : List PlainToken) (stack : List plain.Part) (d : event.Event) → i < length es
-    → make php.grammar judged es ts [] ≡ make php.grammar judged (drop i es) rest stack → make php.grammar judged es ts [] ≡ make php.grammar judged (get_or es i d ∷ drop (i + 1) es) rest stack
+abbrev pub Makes : List event.Event → List PlainToken → List event.Event → List PlainToken → List plain.Part → Type 0
+Makes es ts left rest stack = make php.grammar judged es ts [] ≡ make php.grammar judged left rest stack
+
+next_event : (es : List event.Event) (i : ℕ) (ts rest : List PlainToken) (stack : List plain.Part) (d : event.Event) → i < length es
+    → Makes es ts (drop i es) rest stack → Makes es ts (get_or es i d ∷ drop (i + 1) es) rest stack
 next_event es i ts rest stack d lt same = same ∙ ap (λ (fs : List event.Event). make php.grammar judged fs rest stack) (drop_more es i d lt)
 
+module _ (es : List event.Event) (i : ℕ) (ts : List PlainToken) (d : event.Event) (before after : Builder) (told : Step) (lt : i < length es)
+  (same : Makes es ts (drop i es) (plain_tokens before.rest.now) (map plain_part before.stack)) (steps : Steps (get_or es i d) before after told) where
+  here : Makes es ts (get_or es i d ∷ drop (i + 1) es) (plain_tokens before.rest.now) (map plain_part before.stack)
+  here = next_event es i ts (plain_tokens before.rest.now) (map plain_part before.stack) d lt same
+
+  pub goes_on : told ≡ step.On → Makes es ts (drop (i + 1) es) (plain_tokens after.rest.now) (map plain_part after.stack)
+  goes_on is = here ∙ subst (Steps (get_or es i d) before after) is steps (drop (i + 1) es)
+
+  pub goes_high : (at : ℕ) → IsOnly php.grammar (kinds judged ts) es → told ≡ step.High at → HasHighPart ts
+  goes_high at only is =
+      let h = subst (Steps (get_or es i d) before after) is steps in
+      high_stays ts es only (drop (i + 1) es) h.tokens h.stack (here ∙ h.goes (drop (i + 1) es)) h.high
+
 pub no_event : (es : List event.Event) (i : ℕ) (ts rest : List PlainToken) (stack : List plain.Part) → length es ≤ i
-    → make php.grammar judged es ts [] ≡ make php.grammar judged (drop i es) rest stack → make php.grammar judged es ts [] ≡ Some stack
+    → Makes es ts (drop i es) rest stack → make php.grammar judged es ts [] ≡ Some stack
 unfolding make
 no_event es i ts rest stack le same = same ∙ ap (λ (fs : List event.Event). make php.grammar judged fs rest stack) (drop_all i es le)

@@ -4,3 +4,6 @@ pub mod TakeLemmas
 pub mod JudgeLemmas
 pub mod StepLemmas
 pub mod BuildLemmas
+pub mod GatherLemmas
+pub mod LeftOutLemmas
+pub mod LookLemmas

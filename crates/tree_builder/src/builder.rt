@@ -139,7 +139,10 @@ pub fn build(alloc: Global, events: &[Event], tokens: &[Token]) -> Result<Outcom
         }
     }
     match builder.stack.pop() {
-        Some(whole) => outcome(whole),
+        Some(whole) => {
+            let told = outcome(whole)?;
+            Ok(told)
+        }
         None => Err(NoMemory),
     }
 }

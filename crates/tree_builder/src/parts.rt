@@ -8,7 +8,7 @@ ghost use Rattle.php_trees.specs.Actions.{and_then, act};
 ghost use Rattle.script_rules.specs.Parts as plain;
 ghost use Rattle.tree_builder.specs.Gathered.{plain_part, plain_form, plain_left_out, IsSummary, IsGathered, IsTaken};
 
-use crate::gathered::{Gathered, LeftOut, Part, Summary, place_or_0};
+use crate::gathered::{Gathered, LeftOut, Part, Summary, first_place, place_or_0};
 use lr_tables::Rule;
 use php_grammar::actions::{ACTIONS, Action};
 use php_grammar::form::Form;
@@ -64,8 +64,9 @@ fn count(back: &[u16]) -> usize
     ensures { result ≡ length (named back.now) }
 {
     let mut count = 0;
-    for symbol in back {
-        if *symbol == 0 {
+    'symbols: for symbol in back {
+        let ends = *symbol == 0;
+        if ends {
             return count;
         }
         count += 1;
@@ -74,12 +75,13 @@ fn count(back: &[u16]) -> usize
 }
 
 // The first symbol of a right side from behind, and 0 where there is none.
-fn first_symbol(back: &[u16; 10]) -> u16
+fn first_symbol(back: &[u16]) -> u16
     ensures { result ≡ head (onto (named back.now) []) }
 {
     let mut first = 0;
-    for symbol in back {
-        if *symbol == 0 {
+    'symbols: for symbol in back {
+        let ends = *symbol == 0;
+        if ends {
             return first;
         }
         first = *symbol;
@@ -91,7 +93,10 @@ fn first_symbol(back: &[u16; 10]) -> u16
 pub(crate) fn rule_at(number: u16) -> Option<&'static Rule>
     ensures { MatchOption result (slice_get rules number ≡ None) (λ r. slice_get rules number ≡ Some r.now) }
 {
-    RULES.get(number as usize)
+    match RULES.get(number as usize) {
+        Some(rule) => Some(rule),
+        None => None,
+    }
 }
 
 // Whether the rule of this number goes on with what it makes itself.
@@ -101,7 +106,8 @@ fn continues(number: u16) -> bool
     let Some(rule) = rule_at(number) else {
         return false;
     };
-    first_symbol(&rule.back) == rule.left
+    let first = first_symbol(&rule.back);
+    first == rule.left
 }
 
 /// Takes a part for each symbol of a right side from behind from the stack; None where it has too
@@ -144,11 +150,10 @@ impl Summary {
         ensures { (ps : List plain.Part) → IsSummary self.now ps
             → plain.own_place (plain.continues (slice_get rules number)) ps ≡ result }
     {
-        if continues(number) {
-            match self.inner {
-                Some(at) => at,
-                None => place_or_0(self.begins),
-            }
+        let goes_on = continues(number);
+        if goes_on {
+            let begins = first_place(self.inner, self.begins);
+            place_or_0(begins)
         } else {
             place_or_0(self.begins)
         }
@@ -165,17 +170,20 @@ impl Summary {
         let form = form_by(number);
         let at = self.own_place(number);
         let own = LeftOut { form, at };
-        if is_outside(action) {
-            if continues(number) {
+        let outside = is_outside(action);
+        if outside {
+            let goes_on = continues(number);
+            if goes_on {
                 return first_of(self.before, own);
             }
             return own;
         }
         if is_broken {
-            let form = broken_form(action, form);
-            return first_of(self.left_out, LeftOut { form, at });
+            let other = broken_form(action, form);
+            return first_of(self.left_out, LeftOut { form: other, at });
         }
-        first_of(self.left_out, first_of(self.misplaced, own))
+        let inner = first_of(self.misplaced, own);
+        first_of(self.left_out, inner)
     }
 
     // A part by the rule of this number that stands for nothing.
