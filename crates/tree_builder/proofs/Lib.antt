@@ -7,3 +7,4 @@ pub mod BuildLemmas
 pub mod GatherLemmas
 pub mod LeftOutLemmas
 pub mod LookLemmas
+pub mod FileLemmas

@@ -13,7 +13,7 @@ ghost use Rattle.script_rules.specs.Parts as plain;
 ghost use Rattle.script_rules.specs.Parts.{judged};
 ghost use Rattle.script_rules.specs.Refused.{HasLeftOut, HasHighPart};
 ghost use Rattle.tree_builder.specs.Gathered.{plain_part};
-ghost use Rattle.tree_builder.specs.Outcomes.{Tells, IsWhole};
+ghost use Rattle.tree_builder.specs.Outcomes.{Tells, IsScript, IsWhole};
 ghost use Rattle.tree_builder.specs.Steps.{Steps};
 ghost use Rattle.lr_tables.specs.declared.event.Event.TheVariants as event;
 
@@ -45,7 +45,7 @@ enum Step {
     On,
     // A part that begins here is over 200 high.
     High(u32),
-    // Nothing is made, since what is told is of no derivation.
+    // Nothing is made, so what is told is of no derivation.
     Short,
 }
 
@@ -105,20 +105,20 @@ impl<'a> Builder<'a> {
 }
 
 // What the whole of a script is.
-#[tactic(auto, using(crate::proofs::BuildLemmas::file_is))]
-fn outcome(whole: Part) -> Result<Outcome, NoMemory>
-    ensures { IfOk result (IsWhole (plain_part whole.entry)) }
+fn outcome(whole: Part) -> Outcome
+    requires { IsScript (plain_part whole) }
+    ensures { IsWhole (plain_part whole.entry) result }
 {
     let Some(value) = whole.value else {
         let Some(found) = whole.left_out else {
-            return Err(NoMemory);
+            unreachable!();
         };
-        return Ok(Outcome::LeftOut(found));
+        return Outcome::LeftOut(found);
     };
     let Some(file) = value.file() else {
-        return Err(NoMemory);
+        unreachable!();
     };
-    Ok(Outcome::File(file.tree))
+    Outcome::File(file.tree)
 }
 
 /// What the only derivation of a script's tokens is read as.
@@ -135,14 +135,14 @@ pub fn build(alloc: Global, events: &[Event], tokens: &[Token]) -> Result<Outcom
         match step {
             Step::On => {}
             Step::High(at) => return Ok(Outcome::High(at)),
-            Step::Short => return Err(NoMemory),
+            Step::Short => unreachable!(),
         }
     }
     match builder.stack.pop() {
         Some(whole) => {
-            let told = outcome(whole)?;
-            Ok(told)
+            let outcome = outcome(whole);
+            Ok(outcome)
         }
-        None => Err(NoMemory),
+        None => unreachable!(),
     }
 }
