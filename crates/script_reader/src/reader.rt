@@ -9,10 +9,12 @@ ghost use Rattle.script_grammar.specs.Terminals.{terminals};
 ghost use Rattle.script_grammar.specs.Grammar.{most_open};
 ghost use Rattle.php_trees.specs.Reads.{ReadAs};
 ghost use Rattle.script_rules.specs.Refused.{HasHighPart};
-ghost use Rattle.script_reader.specs.Refusals.{place_at, IsCauseOf};
+ghost use Rattle.script_reader.specs.Refusals.{IsCauseOf};
 
-use crate::brackets::too_many;
 use crate::refusal::ParseRefusal;
+use grammar_lookups::brackets::too_many;
+use grammar_lookups::kinds::kinds;
+use grammar_lookups::places::place_of;
 use lr_machine::ReadError;
 use php_grammar::read_file;
 use php_syntax::token::Token;
@@ -20,20 +22,6 @@ use php_syntax::tree::FileTree;
 use php_trees::laws::tokens_have_one_tree;
 use std::alloc::Global;
 use tree_builder::builder::{Outcome, build};
-use tree_builder::kinds::kinds;
-
-// Where the token of this number stands, or the last one, or 0 where there is none.
-fn place_of(tokens: &[Token], number: usize) -> u32
-    ensures { result ≡ place_at (plain_tokens tokens.now) number }
-{
-    match tokens.get(number) {
-        Some(token) => token.at,
-        None => match tokens.last() {
-            Some(token) => token.at,
-            None => 0,
-        },
-    }
-}
 
 /// The tree that the tokens are read as, by PHP's grammar (PHP manual, "Language Reference") and the rules of the
 /// language.

@@ -30,7 +30,7 @@ use tree_values::trees::{Body, Branch, Items, Optional, Params, Row};
 use tree_values::value::{Alone, Made, Value};
 
 /// What a rule makes of the values of its right side.
-pub(crate) fn act<'a>(alloc: Global, action: Action, right: Right<'a>) -> Result<Made<'a>, NoMemory>
+pub fn act<'a>(alloc: Global, action: Action, right: Right<'a>) -> Result<Made<'a>, NoMemory>
     ensures { IfOk result (λ made. Makes made (act_by action (plain_right right.entry))) }
 {
     match action {

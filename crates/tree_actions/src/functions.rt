@@ -17,6 +17,7 @@ use script_grammar::reserved::is_writable;
 use std::alloc::Global;
 use text_base::limits::HEIGHT_LIMIT;
 use text_base::{Bytes, NoMemory};
+use tree_values::params::Named;
 use tree_values::trees::{Body, File, Function, Optional, Params};
 use tree_values::value::{Made, Spelled, Value};
 

@@ -14,6 +14,7 @@ use crate::expressions::usual;
 use crate::functions::function_name;
 use std::alloc::Global;
 use text_base::{Bytes, NoMemory};
+use tree_values::arguments::{given, is_spelled_out};
 use tree_values::nodes::{array, call};
 use tree_values::trees::{Items, Operand, Optional, Row};
 use tree_values::value::{Argument, Made, Spelled, Value};

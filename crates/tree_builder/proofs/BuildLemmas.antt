@@ -25,7 +25,7 @@ use Rattle.tree_builder.specs.declared.builder.Outcome.TheVariants as outcome
 use Rattle.tree_builder.specs.declared.gathered.Part.{Part}
 use Rattle.tree_builder.specs.Gathered.{plain_part, plain_form}
 use Rattle.tree_builder.specs.Outcomes.{Tells, IsScript, IsWhole}
-use Rattle.tree_builder.proofs.FileLemmas.{whole_is_file}
+use Rattle.grammar_lookups.proofs.FileLemmas.{whole_is_file}
 
 some_is : {A : Type 0} {a b : A} → Some a ≡ Some b → a ≡ b
 some_is e = cc
@@ -80,7 +80,7 @@ never_nothing p script none left = let l = something_left_out script.1 none in n
 
 pub never_other : (p : plain.Part) (v : values.Value) → IsScript p → p.value ≡ Some v → values.file_of v ≡ None → ⊥
 never_other p v script some none =
-    let f = whole_is_file script.0 p script.1 v some in
+    let f = whole_is_file script.0 p v script.1 some in
     none_some (sym none ∙ ap values.file_of f.1)
 
 -- a value that is a file

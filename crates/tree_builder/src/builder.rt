@@ -18,8 +18,9 @@ ghost use Rattle.tree_builder.specs.Steps.{Steps};
 ghost use Rattle.lr_tables.specs.declared.event.Event.TheVariants as event;
 
 use crate::gathered::{Gathered, LeftOut, Part, place_or_0};
-use crate::kinds::first_token;
-use crate::parts::{judge, rule_at, take};
+use crate::parts::{judge, take};
+use grammar_lookups::kinds::first_token;
+use grammar_lookups::rules::rule_at;
 use lr_tables::Event;
 use php_syntax::token::Token;
 use php_syntax::tree::FileTree;

@@ -2,7 +2,8 @@ use Rattle.std.proofs.Common.{rules, arith, ◌≡◌, ◌+◌, ◌≤◌, ◌�
 use Rattle.std.proofs.lemmas.List.{drop_more, drop_all}
 use Rattle.lr_tables.specs.Grammars.{named}
 use Rattle.tree_builder.specs.Gathered.{plain_part}
-use Rattle.tree_builder.proofs.TakeLemmas.{named_none, named_short, taking_begins, place_counts, taking_goes_on, taking_stuck, taking_ends}
+use Rattle.grammar_lookups.proofs.CountLemmas.{named_none, named_short}
+use Rattle.tree_builder.proofs.TakeLemmas.{taking_begins, place_counts, taking_goes_on, taking_stuck, taking_ends}
 use Rattle.tree_builder.proofs.parts.take.Goals as goal
 
 pub symbols-init : goal.symbols-init

@@ -7,7 +7,7 @@ use Rattle.script_rules.specs.Parts.{judge, judged}
 use Rattle.tree_values.proofs.OptionLemmas.{none_of}
 use Rattle.tree_builder.specs.Gathered.{plain_part}
 use Rattle.tree_builder.proofs.PartLemmas.{none_high, high_first}
-use Rattle.tree_builder.proofs.StepLemmas.{rule_none, rule_short, rule_goes, low_taken}
+use Rattle.grammar_lookups.proofs.StepLemmas.{rule_none, rule_short, rule_goes, low_taken}
 use Rattle.tree_builder.proofs.builder.Builder.rule.Goals as goal
 
 pub returns-in_default : goal.returns-in_default

@@ -1,7 +1,0 @@
-use Rattle.std.proofs.Common.{◌≡◌, [], drop}
-use Rattle.lr_tables.specs.Grammars.{named, head, onto}
-use Rattle.tree_builder.proofs.TakeLemmas.{last_or}
-use Rattle.tree_builder.proofs.parts.first_symbol.Given as goal
-
-abbrev pub invariant-symbols : goal.invariant-symbols
-invariant-symbols l = head (onto (named l.back) []) ≡ last_or (named (drop l.symbol-index l.back)) l.first
