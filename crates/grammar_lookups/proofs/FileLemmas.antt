@@ -49,19 +49,19 @@ abbrev is_good : ℕ → List ℕ → Action → Bool
 is_good x xs a = if nat_eq x START then is_pass a && is_top xs else if nat_eq x top then makes_files a else true
 
 abbrev are_good : List Rule → List Action → Bool
-are_good [] as = true
+are_good [] acts = true
 are_good (r ∷ rs) [] = is_good r.left (side r) action.Outside && are_good rs []
-are_good (r ∷ rs) (a ∷ as) = is_good r.left (side r) a && are_good rs as
+are_good (r ∷ rs) (a ∷ acts) = is_good r.left (side r) a && are_good rs acts
 
 rules_good : are_good RULES ACTIONS ≡ true
 rules_good = refl
 
-good_at : (rs : List Rule) (as : List Action) (q : ℕ) (r : Rule) → are_good rs as ≡ true → slice_get rs q ≡ Some r → is_good r.left (side r) (slice_index_or as q action.Outside) ≡ true
-good_at [] as q r ok e = none_some e
+good_at : (rs : List Rule) (acts : List Action) (q : ℕ) (r : Rule) → are_good rs acts ≡ true → slice_get rs q ≡ Some r → is_good r.left (side r) (slice_index_or acts q action.Outside) ≡ true
+good_at [] acts q r ok e = none_some e
 good_at (s ∷ rs) [] zero r ok e = ap (λ (x : Rule). is_good x.left (side x) action.Outside) (sym (some_is e)) ∙ (and_parts _ _ ok).0
 good_at (s ∷ rs) [] (suc q) r ok e = good_at rs [] q r (and_parts _ _ ok).1 e
-good_at (s ∷ rs) (a ∷ as) zero r ok e = ap (λ (x : Rule). is_good x.left (side x) a) (sym (some_is e)) ∙ (and_parts _ _ ok).0
-good_at (s ∷ rs) (a ∷ as) (suc q) r ok e = good_at rs as q r (and_parts _ _ ok).1 e
+good_at (s ∷ rs) (a ∷ acts) zero r ok e = ap (λ (x : Rule). is_good x.left (side x) a) (sym (some_is e)) ∙ (and_parts _ _ ok).0
+good_at (s ∷ rs) (a ∷ acts) (suc q) r ok e = good_at rs acts q r (and_parts _ _ ok).1 e
 
 good_rule : (q : ℕ) (r : Rule) → slice_get php.grammar.rules q ≡ Some r → is_good r.left (side r) (action_by q) ≡ true
 unfolding php

@@ -1,7 +1,8 @@
 -- Where a token of a list stands.
-use Rattle.std.proofs.Common.{◌≡◌, ℕ, zero, suc, ◌+◌, ◌-◌, ◌≤◌, List, [], ◌∷◌, length, get_or, true, false, refl, sym, ap, arith, Option, Some, None}
+use Rattle.std.proofs.Common.{◌≡◌, ℕ, zero, suc, ◌+◌, ◌-◌, ◌≤◌, List, [], ◌∷◌, length, get_or, true, false, refl, sym, ap, ◌∙◌, arith, Option, Some, None}
 use Rattle.std.specs.Prelude.{ltb, slice_get}
 use Rattle.std.proofs.lemmas.Bool.{ltb-true, ltb-false}
+use Rattle.std.proofs.lemmas.Option.{slice_get-get_or}
 use Rattle.php_syntax.specs.declared.token.Token.{Token}
 use Rattle.php_syntax.specs.Tokens.{plain_tokens}
 use Rattle.grammar_lookups.proofs.LookLemmas.{found_at}
@@ -37,12 +38,13 @@ no_items (x ∷ xs) h = absurd (omega arith)
 pub place_found : (ts : List Token) (n : ℕ) (t : Token) → true ≡ ltb n (length ts) → t ≡ get_or ts n t → t.at ≡ place_at (plain_tokens ts) n
 place_found ts n t within is = at_found ts n t (found_at ts n t within is)
 
-pub place_last : (ts : List Token) (n : ℕ) (t : Token) → false ≡ ltb n (length ts) → true ≡ ltb (length ts - 1) (length ts) → t ≡ get_or ts (length ts - 1) t → t.at ≡ place_at (plain_tokens ts) n
+pub place_last : (ts : List Token) (n : ℕ) (t : Token) → false ≡ ltb n (length ts) → true ≡ ltb 0 (length ts) → t ≡ get_or ts (length ts - 1) t → t.at ≡ place_at (plain_tokens ts) n
 place_last ts n t past within is =
-    let low = ltb-true (length ts - 1) (length ts) (sym within) in
-    at_end ts n (length ts - 1) t (found_at ts (length ts - 1) t within is) (ltb-false n (length ts) (sym past)) (omega (arith, low))
+    let low = ltb-true 0 (length ts) (sym within) in
+    let there : slice_get ts (length ts - 1) ≡ Some t = slice_get-get_or ts (length ts - 1) t (omega (arith, low)) ∙ ap (λ (x : Token). Some x) (sym is) in
+    at_end ts n (length ts - 1) t there (ltb-false n (length ts) (sym past)) (omega (arith, low))
 
-pub place_none : (ts : List Token) (n : ℕ) → false ≡ ltb (length ts - 1) (length ts) → 0 ≡ place_at (plain_tokens ts) n
+pub place_none : (ts : List Token) (n : ℕ) → false ≡ ltb 0 (length ts) → 0 ≡ place_at (plain_tokens ts) n
 place_none ts n past =
-    let none = ltb-false (length ts - 1) (length ts) (sym past) in
+    let none = ltb-false 0 (length ts) (sym past) in
     ap (λ (us : List Token). place_at (plain_tokens us) n) (sym (no_items ts (omega (arith, none))))

@@ -22,7 +22,7 @@ returns-in_default-3 c =
     let t = c.in-Some-take.ensures in
     let ts = plain_tokens c.args.self.now.rest.now in
     let stack = map plain_part c.args.self.now.stack in
-    let low = low_taken (named c.in-Some.rule.now.back) stack [] t.parts _ t.are (none_high c.args.self.now.stack) refl in
+    let low = low_taken (named c.in-Some.rule.now.back) stack [] (t.parts, map plain_part c.take.new.stack) t.are (none_high c.args.self.now.stack) refl in
     let is = none_of c.in_ok-found.found c.in_default-3.not-Some in
     let high = rw is at (c.in_ok-found.ensures t.parts t.gathered low) in
     record {
@@ -37,7 +37,7 @@ returns c = λ es.
     let t = c.in-Some-take.ensures in
     let ts = plain_tokens c.args.self.now.rest.now in
     let stack = map plain_part c.args.self.now.stack in
-    let low = low_taken (named c.in-Some.rule.now.back) stack [] t.parts _ t.are (none_high c.args.self.now.stack) refl in
+    let low = low_taken (named c.in-Some.rule.now.back) stack [] (t.parts, map plain_part c.take.new.stack) t.are (none_high c.args.self.now.stack) refl in
     let part = rw c.in-Some-3.is at (c.in_ok-found.ensures t.parts t.gathered low) in
     rule_goes es ts stack c.args.number c.in-Some.rule.now t.parts (map plain_part c.take.new.stack) c.in-Some.ensures t.are
     ∙ ap (λ q. make php.grammar judged es ts (q ∷ map plain_part c.take.new.stack)) (sym part)
