@@ -147,7 +147,7 @@ first_part (further prev x [] from mid rest p ps h (nothing other later)) is vs 
     head_is e = cc
 first_part (further prev x (y ∷ xs) from mid rest p ps h hs) is vs all = absurd (longer is)
   where
-    longer : {a b c : ℕ} {as : List ℕ} → a ∷ b ∷ as ≡ c ∷ [] → ⊥
+    longer : {a b c : ℕ} {more : List ℕ} → a ∷ b ∷ more ≡ c ∷ [] → ⊥
     longer e = cc
 
 file_value : {prev x : ℕ} {from rest : List PlainToken} {p : Part} → Has php.grammar judged prev x from rest p → x ≡ START → (v : Value) → p.value ≡ Some v → IsFile v
