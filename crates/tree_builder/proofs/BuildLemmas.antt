@@ -112,7 +112,7 @@ next_event : (es : List event.Event) (i : ℕ) (ts rest : List PlainToken) (stac
 next_event es i ts rest stack d lt same = same ∙ ap (λ (fs : List event.Event). make php.grammar judged fs rest stack) (drop_more es i d lt)
 
 module _ (es : List event.Event) (i : ℕ) (ts : List PlainToken) (d : event.Event) (before after : Builder) (told : Step) (lt : i < length es)
-  (same : Makes es ts (drop i es) (plain_tokens before.rest.now) (map plain_part before.stack)) (steps : Steps (get_or es i d) before after told) where
+    (same : Makes es ts (drop i es) (plain_tokens before.rest.now) (map plain_part before.stack)) (steps : Steps (get_or es i d) before after told) where
   here : Makes es ts (get_or es i d ∷ drop (i + 1) es) (plain_tokens before.rest.now) (map plain_part before.stack)
   here = next_event es i ts (plain_tokens before.rest.now) (map plain_part before.stack) d lt same
 

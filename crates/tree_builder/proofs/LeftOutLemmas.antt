@@ -23,7 +23,7 @@ module _ (ps : List plain.Part) (s : Summary) (is : IsSummary s ps) where
   place_new b n new place = ap (λ (x : Bool). own_place x ps) new ∙ ap place_or_0 is.begins ∙ sym place
 
   module _ (number : ℕ) (a : Action) (f : Form) (at : ℕ) (r : LeftOut) (act_is : a ≡ action_by number) (form_is : f ≡ form_by number)
-    (place : own_place (continues (slice_get RULES number)) ps ≡ at) where
+      (place : own_place (continues (slice_get RULES number)) ps ≡ at) where
     own : Form → plain.LeftOut
     own g = record { form = g; at = at }
 

@@ -8,9 +8,10 @@ returns-then-ends c =
     count_ends c.args.back.now c.symbols.symbol-index c.symbols.count c.symbols.invariant.1 c.symbols-test.true zero_is
 
 pub symbols-preserved : goal.symbols-preserved
-symbols-preserved c =
-    (omega (arith, c.symbols.invariant.0),
-    count_more c.args.back.now c.symbols.symbol-index c.symbols.count c.symbols.invariant.1 c.symbols-test.true (λ e. search (rules, c.if-ends.false, e)))
+symbols-preserved c = (
+  omega (arith, c.symbols.invariant.0),
+  count_more c.args.back.now c.symbols.symbol-index c.symbols.count c.symbols.invariant.1 c.symbols-test.true (λ e. search (rules, c.if-ends.false, e)),
+)
 
 pub returns : goal.returns
 returns c = count_done c.args.back.now c.symbols.symbol-index c.symbols.count c.symbols.invariant.1 c.symbols-test.false
