@@ -106,7 +106,7 @@ impl<'a> Builder<'a> {
 }
 
 // What the whole of a script is.
-fn outcome(whole: Part) -> Outcome
+fn whole_outcome(whole: Part) -> Outcome
     requires { IsScript (plain_part whole) }
     ensures { IsWhole (plain_part whole.entry) result }
 {
@@ -141,8 +141,8 @@ pub fn build(alloc: Global, events: &[Event], tokens: &[Token]) -> Result<Outcom
     }
     match builder.stack.pop() {
         Some(whole) => {
-            let outcome = outcome(whole);
-            Ok(outcome)
+            let read = whole_outcome(whole);
+            Ok(read)
         }
         None => unreachable!(),
     }

@@ -4,7 +4,7 @@ use Rattle.tree_values.proofs.OptionLemmas.{none_of}
 use Rattle.tree_values.specs.Shown.{plain_value}
 use Rattle.tree_builder.specs.Gathered.{plain_part, plain_left_out}
 use Rattle.tree_builder.proofs.BuildLemmas.{file_is, never_nothing, never_other}
-use Rattle.tree_builder.proofs.builder.outcome.Goals as goal
+use Rattle.tree_builder.proofs.builder.whole_outcome.Goals as goal
 
 pub unreachable-requires : goal.unreachable-requires
 unreachable-requires c =
