@@ -110,11 +110,16 @@ fn whole_outcome(whole: Part) -> Outcome
     requires { IsScript (plain_part whole) }
     ensures { IsWhole (plain_part whole.entry) result }
 {
-    let Some(value) = whole.value else {
-        let Some(found) = whole.left_out else {
+    let Part {
+        begins: _begins,
+        value: found,
+        left_out,
+    } = whole;
+    let Some(value) = found else {
+        let Some(form) = left_out else {
             unreachable!();
         };
-        return Outcome::LeftOut(found);
+        return Outcome::LeftOut(form);
     };
     let Some(file) = value.file() else {
         unreachable!();

@@ -2,7 +2,7 @@
 
 ghost use Rattle.std.specs.Prelude.{◌≡◌, ◌∷◌, [], ◌+◌, ◌<◌, List, Option, Some, None};
 ghost use Rattle.std.specs.Option.{option_map};
-ghost use Rattle.php_trees.specs.Values as values;
+ghost use Rattle.php_trees.specs.Values.{Value as PlainValue};
 ghost use Rattle.php_trees.specs.Actions.{of_two, and_then};
 ghost use Rattle.script_rules.specs.Parts as plain;
 ghost use Rattle.tree_builder.specs.Gathered.{plain_part, plain_left_out, AreRight, IsGathered};
@@ -200,7 +200,7 @@ fn values_with<'a>(
     values: Option<Right<'a>>,
 ) -> Option<Right<'a>>
     requires { place < 10 }
-    ensures { (o : Option (List values.Value)) → AreRight (place + 1) values.entry o
+    ensures { (o : Option (List PlainValue)) → AreRight (place + 1) values.entry o
         → AreRight place result (of_two (λ v vs. v ∷ vs) (option_map plain_value value.entry) o) }
 {
     let Some(behind) = values else {

@@ -24,7 +24,7 @@ pub(crate) fn take<'a>(back: &[u16], stack: &mut Stack<Part<'a>>) -> Option<Gath
         (IsTaken (named back.now) (map plain_part stack.old) (map plain_part stack.new)) }
 {
     let mut place = count(back);
-    let mut gathered = Gathered::none();
+    let mut gathered: Gathered<'a> = Gathered::none();
     'symbols: for symbol in back {
         let ends = *symbol == 0;
         if ends {

@@ -9,13 +9,13 @@ use Rattle.tree_builder.proofs.builder.whole_outcome.Goals as goal
 pub unreachable-requires : goal.unreachable-requires
 unreachable-requires c =
     let w = c.args.whole in
-    never_nothing (plain_part w) c.requires (ap (option_map plain_value) (none_of w.value c.in_default.not-Some)) (ap plain_left_out (none_of w.left_out c.in_default-2.not-Some))
+    never_nothing (plain_part w) c.requires (ap (option_map plain_value) (none_of w.value c.in_default.not-Some)) (ap plain_left_out (none_of w.left_out c.in_default-left_out.not-Some))
 
 pub returns-in_default : goal.returns-in_default
-returns-in_default c = ap plain_left_out c.in-Some.is
+returns-in_default c = ap plain_left_out c.in-Some-left_out.is
 
-pub unreachable-requires-2 : goal.unreachable-requires-2
-unreachable-requires-2 c = never_other (plain_part c.args.whole) (plain_value c.in-Some.value) c.requires (ap (option_map plain_value) c.in-Some.is) c.in_default-file.ensures
+pub unreachable-requires-in_default-file : goal.unreachable-requires-in_default-file
+unreachable-requires-in_default-file c = never_other (plain_part c.args.whole) (plain_value c.in-Some.value) c.requires (ap (option_map plain_value) c.in-Some.is) c.in_default-file.ensures
 
 pub returns : goal.returns
 returns c =

@@ -10,10 +10,10 @@ returns-in_default c = λ o was.
     let none = rw is at was in
     none_behind c.args.value o none
 
-pub returns-in_default-2 : goal.returns-in_default-2
-returns-in_default-2 c = λ o was. none_before c.args.value o (none_of c.args.value c.in_default-2.not-Some)
+pub returns-in_default-value : goal.returns-in_default-value
+returns-in_default-value c = λ o was. none_before c.args.value o (none_of c.args.value c.in_default-value.not-Some)
 
 pub returns : goal.returns
 returns c = λ o was.
     let some = rw c.in-Some.is at was in
-    (plain_value c.in-Some-2.first ∷ some.0, (one_before c.args.value c.in-Some-2.first o some.0 c.in-Some-2.is some.1, c.put.ensures some.0 some.2))
+    (plain_value c.in-Some-value.first ∷ some.0, (one_before c.args.value c.in-Some-value.first o some.0 c.in-Some-value.is some.1, c.put.ensures some.0 some.2))

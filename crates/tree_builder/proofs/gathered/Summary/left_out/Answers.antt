@@ -14,10 +14,10 @@ returns-then-outside c = λ ps s some.
 
 pub returns-then-is_broken : goal.returns-then-is_broken
 returns-then-is_broken c = λ ps s some.
-    told_broken ps c.args.self.now s c.args.number c.action_by-action.result c.form_by-form.result c.own_place-at.result c.first_of.result c.action_by-action.ensures c.form_by-form.ensures (c.own_place-at.ensures ps s)
-    c.args.is_broken c.broken_form-other.result (sym c.is_outside-outside.ensures ∙ c.if-outside.false) some c.if-is_broken.true c.broken_form-other.ensures c.first_of.ensures
+    told_broken ps c.args.self.now s c.args.number c.action_by-action.result c.form_by-form.result c.own_place-at.result c.first_of-then-is_broken.result c.action_by-action.ensures c.form_by-form.ensures (c.own_place-at.ensures ps s)
+    c.args.is_broken c.broken_form-other.result (sym c.is_outside-outside.ensures ∙ c.if-outside.false) some c.if-is_broken.true c.broken_form-other.ensures c.first_of-then-is_broken.ensures
 
 pub returns : goal.returns
 returns c = λ ps s some.
-    told_nothing ps c.args.self.now s c.args.number c.action_by-action.result c.form_by-form.result c.own_place-at.result c.first_of.result c.action_by-action.ensures c.form_by-form.ensures (c.own_place-at.ensures ps s)
-    c.args.is_broken c.first_of-inner.result (sym c.is_outside-outside.ensures ∙ c.if-outside.false) some c.if-is_broken.false c.first_of-inner.ensures c.first_of.ensures
+    told_nothing ps c.args.self.now s c.args.number c.action_by-action.result c.form_by-form.result c.own_place-at.result c.first_of-2.result c.action_by-action.ensures c.form_by-form.ensures (c.own_place-at.ensures ps s)
+    c.args.is_broken c.first_of-inner.result (sym c.is_outside-outside.ensures ∙ c.if-outside.false) some c.if-is_broken.false c.first_of-inner.ensures c.first_of-2.ensures
