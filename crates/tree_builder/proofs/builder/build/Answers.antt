@@ -18,20 +18,20 @@ pub events-preserved : goal.events-preserved
 events-preserved c =
     goes_on c.args.events.now c.events.told-index (plain_tokens c.args.tokens.now) _ c.events.builder c.step.new.self c.in_ok-step.step c.events-test.true c.events.invariant c.in_ok-step.ensures c.in-On.is
 
-pub whole_outcome-requires : goal.whole_outcome-requires
-whole_outcome-requires c =
+pub whole_outcome-read-requires : goal.whole_outcome-read-requires
+whole_outcome-read-requires c =
     let ts = plain_tokens c.args.tokens.now in
     let made = no_event c.args.events.now c.events.told-index ts (plain_tokens c.events.builder.rest.now) (map plain_part c.events.builder.stack) c.events-test.false c.events.invariant in
     (ts, script_of ts c.args.events.now c.events.builder.stack c.pop.new.self c.in-Some.whole c.requires made c.in-Some.ensures)
 
-pub returns-in-Some : goal.returns-in-Some
-returns-in-Some c =
+pub returns : goal.returns
+returns c =
     let ts = plain_tokens c.args.tokens.now in
     let made = no_event c.args.events.now c.events.told-index ts (plain_tokens c.events.builder.rest.now) (map plain_part c.events.builder.stack) c.events-test.false c.events.invariant in
     script_tells ts c.in-Some.whole c.whole_outcome-read.result (script_of ts c.args.events.now c.events.builder.stack c.pop.new.self c.in-Some.whole c.requires made c.in-Some.ensures) c.whole_outcome-read.ensures
 
-pub unreachable-requires-2 : goal.unreachable-requires-2
-unreachable-requires-2 c =
+pub unreachable-requires-in-None : goal.unreachable-requires-in-None
+unreachable-requires-in-None c =
     let ts = plain_tokens c.args.tokens.now in
     let made = no_event c.args.events.now c.events.told-index ts (plain_tokens c.events.builder.rest.now) (map plain_part c.events.builder.stack) c.events-test.false c.events.invariant in
     never_empty ts c.args.events.now c.events.builder.stack c.requires made c.in-None.ensures.0

@@ -16,4 +16,4 @@ returns-in_default-value c = λ o was. none_before c.args.value o (none_of c.arg
 pub returns : goal.returns
 returns c = λ o was.
     let some = rw c.in-Some.is at was in
-    (plain_value c.in-Some-value.first ∷ some.0, (one_before c.args.value c.in-Some-value.first o some.0 c.in-Some-value.is some.1, c.put.ensures some.0 some.2))
+    (plain_value c.in-Some-value.first ∷ some.0, one_before c.args.value c.in-Some-value.first o some.0 c.in-Some-value.is some.1, c.put.ensures some.0 some.2)
