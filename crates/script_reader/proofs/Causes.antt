@@ -1,7 +1,8 @@
 -- Why tokens are refused, and what is told of a tree.
-use Rattle.std.proofs.Common.{◌≡◌, ℕ, ◌<◌, ◌≤◌, List, arith, inl, inr}
+use Rattle.std.proofs.Common.{◌≡◌, ℕ, ◌<◌, ◌≤◌, List, sym, subst, arith, inl, inr}
 use Rattle.text_base.specs.declared.limits.TheConstants.{HEIGHT_LIMIT}
-use Rattle.lr_tables.specs.Grammars.{IsSentence, IsFirstWrong}
+use Rattle.lr_tables.specs.declared.event.Event as event
+use Rattle.lr_tables.specs.Grammars.{IsSentence, IsOnly, IsFirstWrong}
 use Rattle.lr_tables.specs.Values.{kinds, HasValue}
 use Rattle.lr_tables.proofs.Making.{are_made}
 use Rattle.php_syntax.specs.Tokens.{PlainToken}
@@ -31,3 +32,11 @@ none_read ts n wrong tree read = let w = whole_of_read ts tree read in wrong.non
 
 pub no_script : (ts : List PlainToken) (n at : ℕ) → IsFirstWrong php.grammar (kinds judged ts) n → at ≡ place_at ts n → IsNoScript ts at
 no_script ts n at wrong is = record { number = n; wrong = wrong; is = is }
+
+-- the same by other words for the terminals and for what is told
+
+pub same_wrong : (ts : List PlainToken) (ks : List ℕ) (n : ℕ) → ks ≡ kinds judged ts → IsFirstWrong php.grammar ks n → IsFirstWrong php.grammar (kinds judged ts) n
+same_wrong ts ks n e wrong = subst (λ (xs : List ℕ). IsFirstWrong php.grammar xs n) e wrong
+
+pub same_only : (ts : List PlainToken) (ks : List ℕ) (es fs : List event.Event) → ks ≡ kinds judged ts → fs ≡ es → IsOnly php.grammar ks es → IsOnly php.grammar (kinds judged ts) fs
+same_only ts ks es fs e f only = subst (λ (gs : List event.Event). IsOnly php.grammar (kinds judged ts) gs) (sym f) (subst (λ (xs : List ℕ). IsOnly php.grammar xs es) e only)

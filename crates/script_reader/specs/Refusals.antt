@@ -1,5 +1,5 @@
 -- Why tokens are refused.
-use Rattle.std.specs.Prelude.{◌≡◌, ℕ, zero, suc, ◌<◌, List, [], ◌∷◌, ⊤, ◌⊎◌}
+use Rattle.std.specs.Prelude.{◌≡◌, ℕ, ◌<◌, List, ⊤, ◌⊎◌}
 use Rattle.text_base.specs.declared.limits.TheConstants.{HEIGHT_LIMIT}
 use Rattle.lr_tables.specs.Grammars.{IsFirstWrong}
 use Rattle.lr_tables.specs.Values.{kinds}
@@ -11,19 +11,13 @@ use Rattle.php_grammar.specs.Php.{php}
 use Rattle.php_trees.specs.Reads.{ReadAs}
 use Rattle.script_rules.specs.Parts.{judged}
 use Rattle.script_rules.specs.Refused.{HasLeftOut, HasHighPart}
+use Rattle.grammar_lookups.specs.Places.{place_at}
 use Rattle.script_reader.specs.declared.refusal.ParseRefusal.{ParseRefusal}
 use Rattle.script_reader.specs.declared.refusal.ParseRefusal.TheVariants as refusals
 
 -- more brackets are open at once than may be, or the tokens are a script of PHP of which a part stands for a tree that is higher than may be
 abbrev pub IsTooDeep : List PlainToken → Type 0
 IsTooDeep tokens = (HEIGHT_LIMIT < most_open 0 (terminals tokens)) ⊎ HasHighPart tokens
-
--- where the token of this number stands, from 0 on, and the last one where there are fewer; 0 where there is none
-abbrev pub place_at : List PlainToken → ℕ → ℕ
-place_at [] n = 0
-place_at (t ∷ []) n = t.at
-place_at (t ∷ u ∷ ts) zero = t.at
-place_at (t ∷ u ∷ ts) (suc n) = place_at (u ∷ ts) n
 
 -- the tokens are no script of PHP, and here stands the first one that no script goes on with
 pub record IsNoScript (tokens : List PlainToken) (at : ℕ) : Type 0 where

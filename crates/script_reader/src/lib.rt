@@ -5,7 +5,6 @@
 //! Used by: none yet.
 #![tactic(auto)]
 
-mod brackets;
 mod reader;
 mod refusal;
 

@@ -1,6 +1,6 @@
 //! Tokens to the one tree that they are read as.
 
-ghost use Rattle.std.specs.Prelude.{◌≡◌, ◌≤◌, ℕ, IfOk, IfErr};
+ghost use Rattle.std.specs.Prelude.{◌≡◌, ◌≤◌, IfOk, IfErr};
 ghost use Rattle.text_base.specs.declared.limits.TheConstants.{HEIGHT_LIMIT};
 ghost use Rattle.php_syntax.specs.Tokens.{plain_tokens};
 ghost use Rattle.php_syntax.specs.Trees.{PlainFile, plain_file};
@@ -8,10 +8,13 @@ ghost use Rattle.php_syntax.specs.Height.{file_height};
 ghost use Rattle.script_grammar.specs.Terminals.{terminals};
 ghost use Rattle.script_grammar.specs.Grammar.{most_open};
 ghost use Rattle.php_trees.specs.Reads.{ReadAs};
-ghost use Rattle.script_reader.specs.Refusals.{place_at, IsTooDeep, IsCauseOf};
+ghost use Rattle.script_rules.specs.Refused.{HasHighPart};
+ghost use Rattle.script_reader.specs.Refusals.{IsCauseOf};
 
-use crate::brackets::too_many;
 use crate::refusal::ParseRefusal;
+use grammar_lookups::brackets::too_many;
+use grammar_lookups::kinds::kinds;
+use grammar_lookups::places::place_of;
 use lr_machine::ReadError;
 use php_grammar::read_file;
 use php_syntax::token::Token;
@@ -19,20 +22,6 @@ use php_syntax::tree::FileTree;
 use php_trees::laws::tokens_have_one_tree;
 use std::alloc::Global;
 use tree_builder::builder::{Outcome, build};
-use tree_builder::kinds::kinds;
-
-// Where the token of this number stands, or the last one, or 0 where there is none.
-fn place_of(tokens: &[Token], number: usize) -> u32
-    ensures { result ≡ place_at (plain_tokens tokens.now) number }
-{
-    match tokens.get(number) {
-        Some(token) => token.at,
-        None => match tokens.last() {
-            Some(token) => token.at,
-            None => 0,
-        },
-    }
-}
 
 /// The tree that the tokens are read as, by PHP's grammar (PHP manual, "Language Reference") and the rules of the
 /// language.
@@ -47,7 +36,9 @@ pub fn parse(alloc: Global, tokens: &[Token]) -> Result<FileTree, ParseRefusal>
 
     // They are not too deep.
     ensures within { IfOk result (λ tree.
-        (IsTooDeep (plain_tokens tokens.now) → ⊥) × (file_height (plain_file tree) ≤ HEIGHT_LIMIT)) }
+        (most_open 0 (terminals (plain_tokens tokens.now)) ≤ HEIGHT_LIMIT)
+        × (file_height (plain_file tree) ≤ HEIGHT_LIMIT)
+        × (HasHighPart (plain_tokens tokens.now) → ⊥)) }
 
     // A refusal has its cause.
     ensures refused { IfErr result (IsCauseOf (plain_tokens tokens.now)) }
@@ -57,7 +48,8 @@ pub fn parse(alloc: Global, tokens: &[Token]) -> Result<FileTree, ParseRefusal>
         return Err(ParseRefusal::TooDeep { at });
     }
     let kinds = kinds(alloc, tokens)?;
-    let events = match read_file(alloc, &kinds) {
+    let terminals = kinds.as_slice();
+    let events = match read_file(alloc, terminals) {
         Ok(events) => events,
         Err(ReadError::NoMemory) => return Err(ParseRefusal::Memory),
         Err(ReadError::Wrong(number)) => {
@@ -65,7 +57,9 @@ pub fn parse(alloc: Global, tokens: &[Token]) -> Result<FileTree, ParseRefusal>
             return Err(ParseRefusal::NoScript { at });
         }
     };
-    match build(alloc, &events, tokens)? {
+    let told = events.as_slice();
+    let outcome = build(alloc, told, tokens)?;
+    match outcome {
         Outcome::File(tree) => Ok(tree),
         Outcome::LeftOut(found) => Err(ParseRefusal::LeftOut {
             form: found.form,

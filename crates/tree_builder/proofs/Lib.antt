@@ -1,6 +1,6 @@
-pub mod WordLemmas
 pub mod PartLemmas
 pub mod TakeLemmas
 pub mod JudgeLemmas
-pub mod StepLemmas
 pub mod BuildLemmas
+pub mod GatherLemmas
+pub mod LeftOutLemmas

@@ -1,22 +1,11 @@
 -- Parts that are taken from a stack, one for each symbol of a right side from behind.
-use Rattle.std.proofs.Common.{◌≡◌, ℕ, zero, suc, ◌+◌, ◌≤◌, List, [], ◌∷◌, length, refl, ap, ◌∙◌, subst, arith, Option, Some, None}
+use Rattle.std.proofs.Common.{◌≡◌, ℕ, ◌+◌, List, [], ◌∷◌, length, refl, ap, ◌∙◌, subst, arith, Option, Some, None}
 use Rattle.lr_tables.specs.Grammars.{named}
 use Rattle.lr_tables.specs.Values.{taken}
 use Rattle.script_rules.specs.Parts as plain
+use Rattle.grammar_lookups.proofs.CountLemmas.{named_more}
 use Rattle.tree_builder.specs.declared.gathered.Gathered.{Gathered}
 use Rattle.tree_builder.specs.Gathered.{IsGathered, IsTaken}
-
-named_more : (x : ℕ) (xs : List ℕ) → (x ≡ 0 → ⊥) → named (x ∷ xs) ≡ x ∷ named xs
-named_more zero xs h = absurd (h refl)
-named_more (suc x) xs h = refl
-
-pub named_none : (x : ℕ) (xs left : List ℕ) → left ≡ x ∷ xs → x ≡ 0 → named left ≡ []
-named_none x xs left is e = ap named is ∙ ap (λ (y : ℕ). named (y ∷ xs)) e
-
-pub named_short : (xs : List ℕ) → length (named xs) ≤ length xs
-named_short [] = omega arith
-named_short (zero ∷ xs) = omega arith
-named_short (suc x ∷ xs) = omega (arith, named_short xs)
 
 -- what is left to take, and what was taken
 pub record Taking (back : List ℕ) (before : List plain.Part) (left : List ℕ) (stack : List plain.Part) (place : ℕ) (g : Gathered) : Type 0 where

@@ -1,9 +1,8 @@
 -- What is told of the tokens of a script.
-use Rattle.std.specs.Prelude.{◌≡◌, ℕ, ◌≤◌, true, false, List, [], ◌∷◌, map, Option, Some, None}
+use Rattle.std.specs.Prelude.{◌≡◌, ◌≤◌, List, Some}
 use Rattle.text_base.specs.declared.limits.TheConstants.{HEIGHT_LIMIT}
-use Rattle.lr_tables.specs.declared.event.Event as event
-use Rattle.lr_tables.specs.Values.{make}
-use Rattle.php_syntax.specs.Tokens.{PlainToken, plain_tokens}
+use Rattle.lr_tables.specs.Values.{HasValue}
+use Rattle.php_syntax.specs.Tokens.{PlainToken}
 use Rattle.php_syntax.specs.Trees.{PlainFile, plain_file}
 use Rattle.php_syntax.specs.Height.{file_height}
 use Rattle.php_grammar.specs.Php.{php}
@@ -22,6 +21,10 @@ abbrev pub Tells : List PlainToken → Outcome → Type 0
 Tells ts (outcome.File t) = ReadAs ts (plain_file t) × (file_height (plain_file t) ≤ HEIGHT_LIMIT) × (HasHighPart ts → ⊥)
 Tells ts (outcome.LeftOut l) = HasLeftOut ts (plain_form l) × ((tree : PlainFile) → ReadAs ts tree → ⊥) × (HasHighPart ts → ⊥)
 Tells ts (outcome.High at) = HasHighPart ts
+
+-- the part is the whole of a script
+abbrev pub IsScript : plain.Part → Type 0
+IsScript p = (ts : List PlainToken) × HasValue php.grammar judged ts p
 
 -- the whole part has this value, or this is left out of it
 abbrev pub IsWhole : plain.Part → Outcome → Type 0

@@ -13,13 +13,14 @@ ghost use Rattle.script_rules.specs.Parts as plain;
 ghost use Rattle.script_rules.specs.Parts.{judged};
 ghost use Rattle.script_rules.specs.Refused.{HasLeftOut, HasHighPart};
 ghost use Rattle.tree_builder.specs.Gathered.{plain_part};
-ghost use Rattle.tree_builder.specs.Outcomes.{Tells, IsWhole};
+ghost use Rattle.tree_builder.specs.Outcomes.{Tells, IsScript, IsWhole};
 ghost use Rattle.tree_builder.specs.Steps.{Steps};
 ghost use Rattle.lr_tables.specs.declared.event.Event.TheVariants as event;
 
 use crate::gathered::{Gathered, LeftOut, Part, place_or_0};
-use crate::kinds::first_token;
-use crate::parts::{judge, rule_at, take};
+use crate::parts::{judge, take};
+use grammar_lookups::kinds::first_token;
+use grammar_lookups::rules::rule_at;
 use lr_tables::Event;
 use php_syntax::token::Token;
 use php_syntax::tree::FileTree;
@@ -45,7 +46,7 @@ enum Step {
     On,
     // A part that begins here is over 200 high.
     High(u32),
-    // Nothing is made, since what is told is of no derivation.
+    // Nothing is made, so what is told is of no derivation.
     Short,
 }
 
@@ -105,20 +106,25 @@ impl<'a> Builder<'a> {
 }
 
 // What the whole of a script is.
-#[tactic(auto, using(crate::proofs::BuildLemmas::file_is))]
-fn outcome(whole: Part) -> Result<Outcome, NoMemory>
-    ensures { IfOk result (IsWhole (plain_part whole.entry)) }
+fn whole_outcome(whole: Part) -> Outcome
+    requires { IsScript (plain_part whole) }
+    ensures { IsWhole (plain_part whole.entry) result }
 {
-    let Some(value) = whole.value else {
-        let Some(found) = whole.left_out else {
-            return Err(NoMemory);
+    let Part {
+        begins: _begins,
+        value: found,
+        left_out,
+    } = whole;
+    let Some(value) = found else {
+        let Some(form) = left_out else {
+            unreachable!();
         };
-        return Ok(Outcome::LeftOut(found));
+        return Outcome::LeftOut(form);
     };
     let Some(file) = value.file() else {
-        return Err(NoMemory);
+        unreachable!();
     };
-    Ok(Outcome::File(file.tree))
+    Outcome::File(file.tree)
 }
 
 /// What the only derivation of a script's tokens is read as.
@@ -135,11 +141,14 @@ pub fn build(alloc: Global, events: &[Event], tokens: &[Token]) -> Result<Outcom
         match step {
             Step::On => {}
             Step::High(at) => return Ok(Outcome::High(at)),
-            Step::Short => return Err(NoMemory),
+            Step::Short => unreachable!(),
         }
     }
     match builder.stack.pop() {
-        Some(whole) => outcome(whole),
-        None => Err(NoMemory),
+        Some(whole) => {
+            let read = whole_outcome(whole);
+            Ok(read)
+        }
+        None => unreachable!(),
     }
 }

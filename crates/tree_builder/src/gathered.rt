@@ -2,7 +2,7 @@
 
 ghost use Rattle.std.specs.Prelude.{◌≡◌, ◌∷◌, [], ◌+◌, ◌<◌, List, Option, Some, None};
 ghost use Rattle.std.specs.Option.{option_map};
-ghost use Rattle.php_trees.specs.Values as values;
+ghost use Rattle.php_trees.specs.Values.{Value as PlainValue};
 ghost use Rattle.php_trees.specs.Actions.{of_two, and_then};
 ghost use Rattle.script_rules.specs.Parts as plain;
 ghost use Rattle.tree_builder.specs.Gathered.{plain_part, plain_left_out, AreRight, IsGathered};
@@ -87,8 +87,8 @@ fn misplaced(value: &Value) -> Option<Form>
     }
 }
 
-// The first of two, if it is there.
-fn first_place(first: Option<u32>, second: Option<u32>) -> Option<u32>
+/// The first of two, if it is there.
+pub(crate) fn first_place(first: Option<u32>, second: Option<u32>) -> Option<u32>
     ensures { result ≡ plain.or_else first second }
 {
     match first {
@@ -117,22 +117,35 @@ pub(crate) fn place_or_0(begins: Option<u32>) -> u32
     }
 }
 
+// The form that a value is, where it stands where it may not.
+fn misplaced_in(value: &Option<Value>) -> Option<Form>
+    ensures { result ≡ and_then (option_map plain_value value.now) plain.misplaced }
+{
+    match value {
+        Some(value) => misplaced(value),
+        None => None,
+    }
+}
+
+// A form at a place.
+fn form_at(at: u32, form: Option<Form>) -> Option<LeftOut>
+    ensures { plain_left_out result ≡ plain.form_at at form }
+{
+    match form {
+        Some(form) => Some(LeftOut { form, at }),
+        None => None,
+    }
+}
+
 impl<'a> Part<'a> {
     // The form that this part is, where it stands where it may not.
     fn misplaced(&self) -> Option<LeftOut>
         ensures { plain_left_out result ≡ plain.form_at (plain.place_or_0 self.now.begins)
             (and_then (plain_part self.now).value plain.misplaced) }
     {
-        match &self.value {
-            Some(value) => match misplaced(value) {
-                Some(form) => Some(LeftOut {
-                    form,
-                    at: place_or_0(self.begins),
-                }),
-                None => None,
-            },
-            None => None,
-        }
+        let at = place_or_0(self.begins);
+        let form = misplaced_in(&self.value);
+        form_at(at, form)
     }
 }
 
@@ -141,6 +154,7 @@ impl<'a> Gathered<'a> {
     pub(crate) fn none() -> Gathered<'a>
         ensures { (place : _) → IsGathered place result [] }
     {
+        let right = Right::empty();
         let summary = Summary {
             begins: None,
             inner: None,
@@ -150,7 +164,7 @@ impl<'a> Gathered<'a> {
         };
         Gathered {
             summary,
-            values: Some(Right::empty()),
+            values: Some(right),
         }
     }
 
@@ -160,16 +174,22 @@ impl<'a> Gathered<'a> {
         ensures { (ps : List plain.Part) → IsGathered (place + 1) self.entry ps → IsGathered place result (plain_part part.entry ∷ ps) }
     {
         let Gathered { summary, values } = self;
-        let misplaced = first_left_out(part.misplaced(), summary.misplaced);
-        let summary = Summary {
-            begins: first_place(part.begins, summary.begins),
+        let begins = first_place(part.begins, summary.begins);
+        let left_out = first_left_out(part.left_out, summary.left_out);
+        let own = part.misplaced();
+        let misplaced = first_left_out(own, summary.misplaced);
+        let all = Summary {
+            begins,
             inner: summary.begins,
             before: part.left_out,
-            left_out: first_left_out(part.left_out, summary.left_out),
+            left_out,
             misplaced,
         };
-        let values = values_with(place, part.value, values);
-        Gathered { summary, values }
+        let right = values_with(place, part.value, values);
+        Gathered {
+            summary: all,
+            values: right,
+        }
     }
 }
 
@@ -180,10 +200,16 @@ fn values_with<'a>(
     values: Option<Right<'a>>,
 ) -> Option<Right<'a>>
     requires { place < 10 }
-    ensures { (o : Option (List values.Value)) → AreRight (place + 1) values.entry o
+    ensures { (o : Option (List PlainValue)) → AreRight (place + 1) values.entry o
         → AreRight place result (of_two (λ v vs. v ∷ vs) (option_map plain_value value.entry) o) }
 {
-    let mut right = values?;
-    right.put(place, value?);
+    let Some(behind) = values else {
+        return None;
+    };
+    let Some(first) = value else {
+        return None;
+    };
+    let mut right = behind;
+    right.put(place, first);
     Some(right)
 }

@@ -1,108 +1,19 @@
 //! The parts of a script, each with what the language leaves out of it.
 
 ghost use Rattle.std.specs.Prelude.{◌≡◌, ◌≤◌, [], false, true, List, Some, None, IfOk, MatchOption, is_some, length, map, slice_get};
-ghost use Rattle.lr_tables.specs.Grammars.{named, head, onto};
+ghost use Rattle.lr_tables.specs.Grammars.{named};
 ghost use Rattle.lr_tables.specs.Values.{taken};
 ghost use Rattle.php_grammar.specs.declared.rules.TheConstants.{RULES as rules};
 ghost use Rattle.php_trees.specs.Actions.{and_then, act};
 ghost use Rattle.script_rules.specs.Parts as plain;
 ghost use Rattle.tree_builder.specs.Gathered.{plain_part, plain_form, plain_left_out, IsSummary, IsGathered, IsTaken};
 
-use crate::gathered::{Gathered, LeftOut, Part, Summary, place_or_0};
-use lr_tables::Rule;
-use php_grammar::actions::{ACTIONS, Action};
-use php_grammar::form::Form;
-use php_grammar::forms::FORMS;
-use php_grammar::rules::RULES;
+use crate::gathered::{Gathered, LeftOut, Part, Summary, first_place, place_or_0};
+use grammar_lookups::rules::{action_by, broken_form, continues, count, form_by, is_outside};
 use std::alloc::Global;
 use text_base::{NoMemory, Stack};
 use tree_actions::actions::act;
 use tree_values::value::{Made, Value};
-
-// What the rule of this number makes.
-fn action_by(number: u16) -> Action
-    ensures { result ≡ plain.action_by number }
-{
-    match ACTIONS.get(number as usize) {
-        Some(action) => *action,
-        None => Action::Outside,
-    }
-}
-
-// Whether a rule is outside of the language.
-fn is_outside(action: Action) -> bool
-    ensures { result ≡ plain.is_outside action }
-{
-    match action {
-        Action::Outside => true,
-        _ => false,
-    }
-}
-
-// The form of what breaks a rule beside the grammar.
-fn broken_form(action: Action, form: Form) -> Form
-    ensures { result ≡ plain.broken_form action form }
-{
-    match action {
-        Action::Function => Form::Jump,
-        _ => form,
-    }
-}
-
-// The form that the rule of this number is.
-fn form_by(number: u16) -> Form
-    ensures { result ≡ plain.form_by number }
-{
-    match FORMS.get(number as usize) {
-        Some(form) => *form,
-        None => Form::Other,
-    }
-}
-
-// How many symbols there are up to the first 0.
-fn count(back: &[u16]) -> usize
-    ensures { result ≡ length (named back.now) }
-{
-    let mut count = 0;
-    for symbol in back {
-        if *symbol == 0 {
-            return count;
-        }
-        count += 1;
-    }
-    count
-}
-
-// The first symbol of a right side from behind, and 0 where there is none.
-fn first_symbol(back: &[u16; 10]) -> u16
-    ensures { result ≡ head (onto (named back.now) []) }
-{
-    let mut first = 0;
-    for symbol in back {
-        if *symbol == 0 {
-            return first;
-        }
-        first = *symbol;
-    }
-    first
-}
-
-/// The rule of this number, if there is one.
-pub(crate) fn rule_at(number: u16) -> Option<&'static Rule>
-    ensures { MatchOption result (slice_get rules number ≡ None) (λ r. slice_get rules number ≡ Some r.now) }
-{
-    RULES.get(number as usize)
-}
-
-// Whether the rule of this number goes on with what it makes itself.
-fn continues(number: u16) -> bool
-    ensures { result ≡ plain.continues (slice_get rules number) }
-{
-    let Some(rule) = rule_at(number) else {
-        return false;
-    };
-    first_symbol(&rule.back) == rule.left
-}
 
 /// Takes a part for each symbol of a right side from behind from the stack; None where it has too
 /// few.
@@ -113,7 +24,7 @@ pub(crate) fn take<'a>(back: &[u16], stack: &mut Stack<Part<'a>>) -> Option<Gath
         (IsTaken (named back.now) (map plain_part stack.old) (map plain_part stack.new)) }
 {
     let mut place = count(back);
-    let mut gathered = Gathered::none();
+    let mut gathered: Gathered<'a> = Gathered::none();
     'symbols: for symbol in back {
         let ends = *symbol == 0;
         if ends {
@@ -144,11 +55,10 @@ impl Summary {
         ensures { (ps : List plain.Part) → IsSummary self.now ps
             → plain.own_place (plain.continues (slice_get rules number)) ps ≡ result }
     {
-        if continues(number) {
-            match self.inner {
-                Some(at) => at,
-                None => place_or_0(self.begins),
-            }
+        let goes_on = continues(number);
+        if goes_on {
+            let begins = first_place(self.inner, self.begins);
+            place_or_0(begins)
         } else {
             place_or_0(self.begins)
         }
@@ -165,17 +75,20 @@ impl Summary {
         let form = form_by(number);
         let at = self.own_place(number);
         let own = LeftOut { form, at };
-        if is_outside(action) {
-            if continues(number) {
+        let outside = is_outside(action);
+        if outside {
+            let goes_on = continues(number);
+            if goes_on {
                 return first_of(self.before, own);
             }
             return own;
         }
         if is_broken {
-            let form = broken_form(action, form);
-            return first_of(self.left_out, LeftOut { form, at });
+            let other = broken_form(action, form);
+            return first_of(self.left_out, LeftOut { form: other, at });
         }
-        first_of(self.left_out, first_of(self.misplaced, own))
+        let inner = first_of(self.misplaced, own);
+        first_of(self.left_out, inner)
     }
 
     // A part by the rule of this number that stands for nothing.

@@ -36,7 +36,7 @@ returns-in-Nothing c = λ ps gathered low.
     let makes = subst (λ a. Makes c.in_ok-made.made (act_by a (plain_right c.in-Some.right))) c.action_by.ensures c.in_ok-made.ensures in
     let made = rw c.in-Nothing.is at (acted c.args.number c.in_ok-made.made c.in-Some.right right.0 right.2 makes) in
     let missing = nothing_made c.args.number ps right.0 right.1 made in
-    c.part.ensures ps gathered.summary missing.0 missing.1 low
+    c.part-in-Nothing.ensures ps gathered.summary missing.0 missing.1 low
 
 pub returns-in-Broken : goal.returns-in-Broken
 returns-in-Broken c = λ ps gathered low.
@@ -44,4 +44,4 @@ returns-in-Broken c = λ ps gathered low.
     let makes = subst (λ a. Makes c.in_ok-made.made (act_by a (plain_right c.in-Some.right))) c.action_by.ensures c.in_ok-made.ensures in
     let made = rw c.in-Broken.is at (acted c.args.number c.in_ok-made.made c.in-Some.right right.0 right.2 makes) in
     let missing = broken_made c.args.number ps right.0 right.1 made in
-    c.part.ensures ps gathered.summary missing.0 missing.1 low
+    c.part-in-Broken.ensures ps gathered.summary missing.0 missing.1 low

@@ -7,7 +7,7 @@ use Rattle.script_rules.specs.Parts.{judge, judged}
 use Rattle.tree_values.proofs.OptionLemmas.{none_of}
 use Rattle.tree_builder.specs.Gathered.{plain_part}
 use Rattle.tree_builder.proofs.PartLemmas.{none_high, high_first}
-use Rattle.tree_builder.proofs.StepLemmas.{rule_none, rule_short, rule_goes, low_taken}
+use Rattle.grammar_lookups.proofs.StepLemmas.{rule_none, rule_short, rule_goes, low_taken}
 use Rattle.tree_builder.proofs.builder.Builder.rule.Goals as goal
 
 pub returns-in_default : goal.returns-in_default
@@ -17,13 +17,13 @@ pub returns-in_default-take : goal.returns-in_default-take
 returns-in_default-take c = λ es.
     rule_short es (plain_tokens c.args.self.now.rest.now) (map plain_part c.args.self.now.stack) c.args.number c.in-Some.rule.now c.in-Some.ensures c.in_default-take.ensures
 
-pub returns-in_default-3 : goal.returns-in_default-3
-returns-in_default-3 c =
+pub returns-in_default-found : goal.returns-in_default-found
+returns-in_default-found c =
     let t = c.in-Some-take.ensures in
     let ts = plain_tokens c.args.self.now.rest.now in
     let stack = map plain_part c.args.self.now.stack in
-    let low = low_taken (named c.in-Some.rule.now.back) stack [] t.parts _ t.are (none_high c.args.self.now.stack) refl in
-    let is = none_of c.in_ok-found.found c.in_default-3.not-Some in
+    let low = low_taken (named c.in-Some.rule.now.back) stack [] (t.parts, map plain_part c.take.new.stack) t.are (none_high c.args.self.now.stack) refl in
+    let is = none_of c.in_ok-found.found c.in_default-found.not-Some in
     let high = rw is at (c.in_ok-found.ensures t.parts t.gathered low) in
     record {
       tokens = ts;
@@ -37,8 +37,8 @@ returns c = λ es.
     let t = c.in-Some-take.ensures in
     let ts = plain_tokens c.args.self.now.rest.now in
     let stack = map plain_part c.args.self.now.stack in
-    let low = low_taken (named c.in-Some.rule.now.back) stack [] t.parts _ t.are (none_high c.args.self.now.stack) refl in
-    let part = rw c.in-Some-3.is at (c.in_ok-found.ensures t.parts t.gathered low) in
+    let low = low_taken (named c.in-Some.rule.now.back) stack [] (t.parts, map plain_part c.take.new.stack) t.are (none_high c.args.self.now.stack) refl in
+    let part = rw c.in-Some-found.is at (c.in_ok-found.ensures t.parts t.gathered low) in
     rule_goes es ts stack c.args.number c.in-Some.rule.now t.parts (map plain_part c.take.new.stack) c.in-Some.ensures t.are
     ∙ ap (λ q. make php.grammar judged es ts (q ∷ map plain_part c.take.new.stack)) (sym part)
     ∙ ap (λ s. make php.grammar judged es ts (map plain_part s)) (sym c.in_ok-push.ensures.ok)

@@ -4,7 +4,7 @@ use Rattle.php_syntax.specs.Tokens.{plain_token, plain_tokens}
 use Rattle.php_grammar.specs.Php.{php}
 use Rattle.script_rules.specs.Parts.{judged}
 use Rattle.tree_builder.specs.Gathered.{plain_part}
-use Rattle.tree_builder.proofs.StepLemmas.{token_short, token_goes}
+use Rattle.grammar_lookups.proofs.StepLemmas.{token_short, token_goes}
 use Rattle.tree_builder.proofs.builder.Builder.token.Goals as goal
 
 pub returns-in_default : goal.returns-in_default

@@ -1,12 +1,9 @@
--- Words of several tables, one after another, and kinds of tokens in a row.
-use Rattle.std.proofs.Common.{◌≡◌, ℕ, Bool, List, [], ◌∷◌, ◌++◌, refl, ap, ◌∙◌, if◌then◌else◌}
+-- Words of several tables, one after another.
+use Rattle.std.proofs.Common.{◌≡◌, ℕ, List, [], ◌∷◌, ◌++◌, refl, sym, ap, ◌∙◌, if◌then◌else◌}
 use Rattle.std.specs.Str.{str_eq_ignore_ascii_case}
-use Rattle.lr_tables.specs.Values.{kinds}
-use Rattle.php_syntax.specs.Tokens.{PlainToken}
 use Rattle.php_grammar.specs.declared.rules.TheConstants as terminal
 use Rattle.php_trees.specs.Kinds.{word_in}
-use Rattle.script_rules.specs.Parts.{judged}
-use Rattle.tree_builder.specs.Words.{word_or}
+use Rattle.grammar_lookups.specs.Words.{word_or}
 
 -- a table and then another
 pub word_append : (other : ℕ) (one two : List (List ℕ × ℕ)) (w : List ℕ) → word_or other (one ++ two) w ≡ word_or (word_or other two w) one w
@@ -18,7 +15,9 @@ pub word_name : (rows : List (List ℕ × ℕ)) (w : List ℕ) → word_or termi
 word_name [] w = refl
 word_name (row ∷ rows) w = ap (λ (n : ℕ). if str_eq_ignore_ascii_case w row.0 then row.1 else n) (word_name rows w)
 
--- the kind of one more token
-pub kinds_push : (ts : List PlainToken) (t : PlainToken) → kinds judged (ts ++ t ∷ []) ≡ kinds judged ts ++ judged.kind t ∷ []
-kinds_push [] t = refl
-kinds_push (u ∷ ts) t = ap (λ (ks : List ℕ). judged.kind u ∷ ks) (kinds_push ts t)
+-- names of three tables, the last one looked up first
+pub names_of : (one two three : List (List ℕ × ℕ)) (w : List ℕ) (last other : ℕ) → last ≡ word_or terminal.NAME three w → other ≡ word_or last two w
+    → word_or other one w ≡ word_in (one ++ (two ++ three)) w
+names_of one two three w last other e f =
+    ap (λ (n : ℕ). word_or n one w) (f ∙ ap (λ (n : ℕ). word_or n two w) e ∙ sym (word_append terminal.NAME two three w))
+    ∙ sym (word_append terminal.NAME one (two ++ three) w) ∙ word_name (one ++ (two ++ three)) w

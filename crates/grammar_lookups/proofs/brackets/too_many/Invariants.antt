@@ -1,8 +1,8 @@
 use Rattle.std.proofs.Common.{length}
 use Rattle.php_syntax.specs.Tokens.{plain_tokens}
 use Rattle.script_grammar.specs.Terminals.{terminals}
-use Rattle.script_reader.proofs.Open.{OpenSoFar}
-use Rattle.script_reader.proofs.brackets.too_many.Given as goal
+use Rattle.grammar_lookups.proofs.Open.{OpenSoFar}
+use Rattle.grammar_lookups.proofs.brackets.too_many.Given as goal
 
 abbrev pub invariant-tokens : goal.invariant-tokens
 invariant-tokens l = OpenSoFar (terminals (plain_tokens l.tokens)) (terminals (plain_tokens l.rest)) l.count

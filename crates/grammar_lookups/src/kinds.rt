@@ -1,23 +1,31 @@
 //! Which terminals of PHP's grammar tokens are.
 
 ghost use Rattle.std.specs.Prelude.{◌≡◌, ◌++◌, ◌∷◌, [], IfOk, MatchOption, map};
+ghost use Rattle.std.specs.Str.{str_eq_ignore_ascii_case};
 ghost use Rattle.lr_tables.specs.Values.{kinds as kinds_of};
 ghost use Rattle.php_syntax.specs.Tokens.{plain_kind, plain_tokens};
 ghost use Rattle.php_trees.specs.Kinds as plain;
 ghost use Rattle.script_rules.specs.Parts.{judged};
-ghost use Rattle.tree_builder.specs.Words.{word_or};
+ghost use Rattle.grammar_lookups.specs.Words.{word_or};
 
 use php_grammar::rules as terminal;
 use php_syntax::token::{Sign, Token, TokenKind};
 use std::alloc::Global;
 use text_base::NoMemory;
 
+// Whether the name is this word, in any case.
+fn is_word(name: &[u8], word: &[u8]) -> bool
+    ensures { result ≡ str_eq_ignore_ascii_case name.now word.now }
+{
+    name.eq_ignore_ascii_case(word)
+}
+
 // The terminal of a spelling by the rows of a table, in any case, and else another.
 fn word_in(rows: &[(&[u8], u16)], name: &[u8], other: u16) -> u16
     ensures { result ≡ word_or other (map (λ row. (row.0.now, row.1)) rows.now) name.now }
 {
     for (word, kind) in rows {
-        if name.eq_ignore_ascii_case(word) {
+        if is_word(name, word) {
             return *kind;
         }
     }

@@ -1,6 +1,7 @@
 -- What one event makes of tokens and of a stack.
 use Rattle.std.proofs.Common.{◌≡◌, ℕ, Bool, true, false, List, [], ◌∷◌, ◌++◌, refl, sym, ap, ◌∙◌, Option, Some, None}
 use Rattle.std.specs.Prelude.{◌||◌, slice_get}
+use Rattle.std.proofs.lemmas.Bool.{false≢true, or_from}
 use Rattle.lr_tables.specs.declared.rule.Rule.{Rule}
 use Rattle.lr_tables.specs.declared.event.Event as event
 use Rattle.lr_tables.specs.Grammars.{named, onto}
@@ -58,30 +59,23 @@ module _ (es : List event.Event) (ts : List PlainToken) (stack : List Part) (p :
       → make php.grammar judged (event.TheVariants.Rule p ∷ es) ts stack ≡ make php.grammar judged es ts (judge p ps ∷ below)
   rule_goes r ps below is takes = taken_by r (Some (ps, below)) is takes
 
+some_is : {A : Type 0} {a b : A} → Some a ≡ Some b → a ≡ b
+some_is e = cc
+
+none_some : {A : Type 0} {x : A} {P : Type 0} → None ≡ Some x → P
+none_some e = cc
+
+low_first : (a b : Bool) → (a || b) ≡ false → a ≡ false
+low_first true b e = absurd (false≢true (sym e))
+low_first false b e = refl
+
+low_second : (a b : Bool) → (a || b) ≡ false → b ≡ false
+low_second true b e = absurd (false≢true (sym e))
+low_second false b e = e
+
 -- parts that are taken of a stack with none too high
-pub low_taken : (xs : List ℕ) (stack ps qs below : List Part) → taken xs stack ps ≡ Some (qs, below) → any_high stack ≡ false → any_high ps ≡ false → any_high qs ≡ false
-low_taken [] stack ps qs below e h i = ap any_high (sym (first_is e)) ∙ i
-  where
-    first_is : {a b c d : List Part} → Some (a, b) ≡ Some (c, d) → a ≡ c
-    first_is f = ap (λ (t : Option (List Part × List Part)). parts_in t) f
-      where
-        parts_in : Option (List Part × List Part) → List Part
-        parts_in None = []
-        parts_in (Some t) = t.0
-low_taken (x ∷ xs) [] ps qs below e h i = none_some e
-  where
-    none_some : {A : Type 0} {y : A} {P : Type 0} → None ≡ Some y → P
-    none_some f = cc
-low_taken (x ∷ xs) (p ∷ stack) ps qs below e h i = low_taken xs stack (p ∷ ps) qs below e (second p.high (any_high stack) h) (neither p.high (any_high ps) (first p.high (any_high stack) h) i)
-  where
-    first : (a b : Bool) → (a || b) ≡ false → a ≡ false
-    first true b f = f
-    first false b f = refl
-
-    second : (a b : Bool) → (a || b) ≡ false → b ≡ false
-    second true b f = absurd (cc)
-    second false b f = f
-
-    neither : (a b : Bool) → a ≡ false → b ≡ false → (a || b) ≡ false
-    neither true b f g = f
-    neither false b f g = g
+pub low_taken : (xs : List ℕ) (stack ps : List Part) (t : List Part × List Part) → taken xs stack ps ≡ Some t → any_high stack ≡ false → any_high ps ≡ false → any_high t.0 ≡ false
+low_taken [] stack ps t e h i = ap (λ (u : List Part × List Part). any_high u.0) (sym (some_is e)) ∙ i
+low_taken (x ∷ xs) [] ps t e h i = none_some e
+low_taken (x ∷ xs) (p ∷ stack) ps t e h i =
+    low_taken xs stack (p ∷ ps) t e (low_second p.high (any_high stack) h) (or_from p.high (any_high ps) (low_first p.high (any_high stack) h) i)

@@ -6,9 +6,9 @@ ghost use Rattle.script_grammar.specs.Terminals.{terminal_of, terminals};
 ghost use Rattle.script_grammar.specs.Grammar.{open_after, open_after_sign, most_open};
 ghost use Rattle.php_syntax.specs.Tokens.{plain_tokens};
 
+use crate::kinds::first_token;
 use php_syntax::token::{Sign, Token, TokenKind};
 use text_base::limits::HEIGHT_LIMIT;
-use tree_builder::kinds::first_token;
 
 // How many are open behind a sign.
 fn behind_sign(count: u32, sign: Sign) -> u32
@@ -40,7 +40,7 @@ fn behind(count: u32, kind: &TokenKind) -> u32
 }
 
 /// Where one bracket too many is opened, if more than 200 are open at once.
-pub(crate) fn too_many(tokens: &[Token]) -> Option<u32>
+pub fn too_many(tokens: &[Token]) -> Option<u32>
     ensures { MatchOption result
         (most_open 0 (terminals (plain_tokens tokens.now)) ≤ HEIGHT_LIMIT)
         (λ _. HEIGHT_LIMIT < most_open 0 (terminals (plain_tokens tokens.now))) }

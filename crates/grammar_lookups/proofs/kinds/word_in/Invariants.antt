@@ -1,6 +1,6 @@
 use Rattle.std.proofs.Common.{◌≡◌, drop, map}
-use Rattle.tree_builder.specs.Words.{word_or}
-use Rattle.tree_builder.proofs.kinds.word_in.Given as goal
+use Rattle.grammar_lookups.specs.Words.{word_or}
+use Rattle.grammar_lookups.proofs.kinds.word_in.Given as goal
 
 abbrev pub invariant-loop-word : goal.invariant-loop-word
 invariant-loop-word l =

@@ -1,8 +1,8 @@
 use Rattle.std.proofs.Common.{rules, ap}
 use Rattle.php_syntax.specs.Tokens.{plain_kind, plain_tokens}
 use Rattle.script_grammar.specs.Terminals.{terminal_of, terminals}
-use Rattle.script_reader.proofs.Open.{open_next, open_too_many, open_last}
-use Rattle.script_reader.proofs.brackets.too_many.Goals as goal
+use Rattle.grammar_lookups.proofs.Open.{open_next, open_too_many, open_last}
+use Rattle.grammar_lookups.proofs.brackets.too_many.Goals as goal
 
 pub returns-then-count-gt-HEIGHT_LIMIT : goal.returns-then-count-gt-HEIGHT_LIMIT
 returns-then-count-gt-HEIGHT_LIMIT c =
