@@ -44,7 +44,7 @@ pub fn reason_of(
             }));
         }
     };
-    let characters = text.chars().collect(alloc)?;
+    let characters: Vec<char> = text.chars().collect(alloc)?;
     let indexed = IndexedDtd::new(alloc, dtd)?;
     let rules = Rules {
         indexed: &indexed,

@@ -69,7 +69,7 @@ IsCause table size place cs reason.NotMarkup = (left : List ℕ) × (cs ≡ 60 �
 -- `&` that begins no reference (4.1)
 IsCause table size place cs reason.NotReference = (left : List ℕ) × (cs ≡ 38 ∷ left) × (begins_reference left ≡ false)
 -- a reference to an entity that is not declared (4.1, Entity Declared)
-IsCause table size place cs (reason.EntityNotDeclared name) = (left : List ℕ) × (cs ≡ 38 ∷ left)
+IsCause table size place cs (reason.EntityNotDeclared name) = (left : List ℕ) × (cs ≡ 38 ∷ left) × (begins_reference left ≡ true)
     × (is_known table.entities (reference_of (front (is_other 59) left)) ≡ false) × IsSpan size left (beyond (is_other 59) left) name
 -- a comment without `-->` (2.5)
 IsCause table size place cs reason.CommentNotClosed =

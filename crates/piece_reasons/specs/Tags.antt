@@ -82,7 +82,8 @@ IsWrong entities rules done left name behind wrong.LessThan = HasWrong left (λ 
 -- `&` in the value that begins no reference (2.3, AttValue)
 IsWrong entities rules done left name behind wrong.NotReference = HasWrong left (λ a. refers_by is_reference a.value ≡ false)
 -- a reference in the value to an entity that is not declared (4.1, Entity Declared)
-IsWrong entities rules done left name behind wrong.EntityNotDeclared = HasWrong left (λ a. refers_by (is_known entities) a.value ≡ false)
+IsWrong entities rules done left name behind wrong.EntityNotDeclared =
+    HasWrong left (λ a. (refers_by is_reference a.value ≡ true) × (refers_by (is_known entities) a.value ≡ false))
 -- not declared for the element (3.1, Attribute Value Type)
 IsWrong entities rules done left name behind wrong.NotDeclared = find_declared rules name ≡ None
 -- one of its name stands before it (3.1, Unique Att Spec)

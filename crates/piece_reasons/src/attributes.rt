@@ -1,9 +1,10 @@
 //! An attribute of a tag, in the order in which its reasons are looked for.
 
-ghost use Rattle.std.specs.Prelude.{◌≡◌, ◌==◌, ℕ, List, IfOk, IfSome, MatchResult, map};
+ghost use Rattle.std.specs.Prelude.{◌≡◌, ◌==◌, ℕ, true, List, IfOk, IfSome, MatchResult, map};
 ghost use Rattle.std.specs.List.{list_all, list_any};
 ghost use Rattle.xml_text.specs.Characters as characters;
 ghost use Rattle.xml_text.specs.Characters.{is_blank};
+ghost use Rattle.dtd_model.specs.References as references;
 ghost use Rattle.dtd_model.specs.Table.{Declared, declared_of};
 ghost use Rattle.page_model.specs.Attributes as spec;
 ghost use Rattle.page_model.specs.Parts as parts;
@@ -138,6 +139,7 @@ pub fn declared_fault(
     done: &[Attribute<'_>],
     attribute: &Attribute<'_>,
 ) -> Result<Option<AttributeReason>, NoMemory>
+    requires { parts.refers_by references.is_reference attribute.now.value.text.now ≡ true }
     ensures { IfOk result (λ found. IfSome found
         (IsWrongWhole (table_at site.now).entities (map declared_of rules.now.items)
         (map attribute_of done.now) (attribute_of attribute.now))) }

@@ -17,6 +17,7 @@ pub returns : goal.returns
 returns c = (
   c.args.rest.now,
   refl,
+  ended_is c.args.rest.now c.split.result.0.now c.split.result.1.now c.split.ensures.front c.split.ensures.rest ∙ sym c.is_ended.ensures ∙ c.if-not-is_ended.false,
   ap (λ (body : List ℕ). is_known (table_at c.args.site.now).entities (reference_of body)) (sym c.split.ensures.front)
       ∙ ap (is_known (table_at c.args.site.now).entities) (sym c.reference_of.ensures)
       ∙ sym c.is_known.ensures
