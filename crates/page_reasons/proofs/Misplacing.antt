@@ -147,7 +147,7 @@ unheld d t state ats b sort parent s os why l is h told =
       i.level,
       i.outer,
       (i.are, sym i.linked.element ∙ ap (λ (x : Elem). x.0) (sym u.0)),
-      u.2.0,
-      ap (holding_at d) (sym i.linked.element) ∙ u.2.1,
+      u.2,
+      ap (holding_at d) (sym i.linked.element) ∙ u.3,
     )
     by _ u i = absurd u

@@ -1,0 +1,19 @@
+use Rattle.std.proofs.Common.{ap, sym, ◌∙◌, subst, List, ℕ}
+use Rattle.page_rules.specs.Views.{literal_of}
+use Rattle.piece_reasons.specs.declared.reasons.AttributeReason.{AttributeReason}
+use Rattle.piece_reasons.specs.Tags.{IsNoValue}
+use Rattle.piece_reasons.proofs.Found.{no_value, equals_here, whole_of}
+use Rattle.piece_reasons.proofs.attributes.First.whole.Goals as goal
+
+pub returns-in-Err-clause-whole : goal.returns-in-Err-clause-whole
+returns-in-Err-clause-whole c = λ entities rules done.
+    no_value entities rules done c.args.self.now.left.now c.args.self.now.name.now c.args.self.now.behind.now c.in-Some.at_value.now c.in-Err.why
+    (equals_here c.args.self.now.behind.now c.split-2.result.1.now c.in-Some.at_value.now c.split-2.ensures.rest c.in-Some.ensures.cases.0)
+    (subst (λ (xs : List ℕ). IsNoValue xs c.in-Err.why) c.split-3.ensures.rest c.in-Err.ensures)
+
+pub returns-in-Ok-clause-whole : goal.returns-in-Ok-clause-whole
+returns-in-Ok-clause-whole c =
+    whole_of c.args.self.now.left.now c.args.self.now.at.now c.args.self.now.name.now c.args.self.now.behind.now c.split-2.result.1.now c.in-Some.at_value.now c.split-3.result.1.now
+    c.split.result.0.now c.split-2.result.0.now c.split-3.result.0.now (literal_of c.in-Ok.value) c.in-Ok.rest.now
+    c.args.self.now.begins c.args.self.now.named c.split.ensures.front c.split-2.ensures.front c.split-2.ensures.rest c.in-Some.ensures.cases.0
+    c.split-3.ensures.front c.split-3.ensures.rest c.in-Ok.ensures
