@@ -1,17 +1,22 @@
 -- What the code finds, as what the reasons say.
 use Rattle.std.proofs.Common.{◌≡◌, ℕ, zero, suc, ◌<◌, List, [], ◌∷◌, ◌++◌, Option, Some, None, refl, sym, ◌∙◌, ap, subst, length, get_or, map, arith, codes, slice_get}
-use Rattle.std.specs.Prelude.{Bool, false}
+use Rattle.std.specs.Prelude.{Bool, true, false, nat_eq, is_some, Decides}
+use Rattle.std.proofs.lemmas.Bool.{eqb-true, eq-eqb}
 use Rattle.xml_text.specs.Characters.{is_blank, is_character}
 use Rattle.dtd_model.specs.Table.{Declared, Table}
+use Rattle.page_model.specs.Attributes.{is_allowed}
 use Rattle.page_model.specs.Parts.{Attribute}
+use Rattle.page_model.specs.Pieces.{Piece}
 use Rattle.page_model.specs.Places.{Place}
 use Rattle.page_model.specs.Prolog.{Literal}
 use Rattle.page_model.specs.Reading.{attribute_from}
 use Rattle.page_model.specs.Scan.{front, beyond, strip}
+use Rattle.page_rules.specs.Takes.{Takes}
+use Rattle.page_rules.specs.declared.piece_tokens.Taken.{Taken}
 use Rattle.piece_reasons.specs.declared.reasons.AttributeReason.{AttributeReason}
 use Rattle.piece_reasons.specs.declared.reasons.AttributeReason.TheVariants as wrong
 use Rattle.piece_reasons.specs.declared.reasons.PieceReason.TheVariants as reason
-use Rattle.piece_reasons.specs.Causes.{IsCause}
+use Rattle.piece_reasons.specs.Causes.{InTarget, IsCause}
 use Rattle.piece_reasons.specs.Spans.{place_before}
 use Rattle.piece_reasons.specs.Tags.{IsName, IsValue, IsNoValue, IsWhole, IsWrong}
 use Rattle.piece_reasons.proofs.Fronts.{all_behind}
@@ -62,3 +67,18 @@ whole_of left at name behind at_equals v at_quote space before after l rest a n 
 -- the first character is none that XML has
 pub stray_here : (table : Table) (size : ℕ) (place : Place) (cs : List ℕ) (c : ℕ) (rest : List ℕ) (at : ℕ) → cs ≡ c ∷ rest → is_character c ≡ false → at ≡ place_before size cs → IsCause table size place cs (reason.NotCharacter at)
 stray_here table size place cs c rest at e h is = stray_behind table size place [] cs cs c rest at (all_behind cs) e h is
+
+-- a target behind `<?`
+pub in_target : (rest target left : List ℕ) → IsName rest target left → InTarget (60 ∷ 63 ∷ rest) target left
+in_target rest target left n = record { rest = rest; is = refl; named = n }
+
+-- Document types.
+
+pub takes_none : (table : Table) (p : Piece) (o : Option Taken) (b : Bool) → Takes table p o → b ≡ is_some o → b ≡ false → is_allowed table p ≡ false
+takes_none table p None b t e h = t
+takes_none table p (Some taken) b t e h = cc
+
+-- Words.
+
+pub decides : (a b : ℕ) → Decides (nat_eq a b) (a ≡ b)
+decides a b = (eqb-true a b, eq-eqb a b)

@@ -40,9 +40,8 @@ pub fn text(site: &Site<'_, '_>, cs: &[char]) -> PieceReason
         return PieceReason::Other;
     };
     if !is_character(*c) {
-        return PieceReason::NotCharacter {
-            at: site.before(cs),
-        };
+        let at = site.before(cs);
+        return PieceReason::NotCharacter { at };
     }
     match site.place {
         Place::Behind(2) if *c == '>' => PieceReason::SectionEnd,

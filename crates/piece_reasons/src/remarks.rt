@@ -21,9 +21,8 @@ fn stray(site: &Site<'_, '_>, text: &[char], end: &[char]) -> PieceReason
             return PieceReason::Other;
         };
         if !is_character(*c) {
-            return PieceReason::NotCharacter {
-                at: site.before(left),
-            };
+            let at = site.before(left);
+            return PieceReason::NotCharacter { at };
         }
         left = rest;
     }

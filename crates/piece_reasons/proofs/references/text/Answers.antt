@@ -6,5 +6,5 @@ use Rattle.piece_reasons.proofs.references.text.Goals as goal
 
 pub returns-then-not-is_character : goal.returns-then-not-is_character
 returns-then-not-is_character c =
-    stray_here (table_at c.args.site.now) c.args.site.now.size (place_of c.args.site.now.place) c.args.cs.now c.in-Some.c.now _ c.before.result c.in-Some.ensures.cases.0
-    (sym c.is_character.ensures ∙ c.if-not-is_character.true) c.before.ensures
+    stray_here (table_at c.args.site.now) c.args.site.now.size (place_of c.args.site.now.place) c.args.cs.now c.in-Some.c.now _ c.before-at.result c.in-Some.ensures.cases.0
+    (sym c.is_character.ensures ∙ c.if-not-is_character.true) c.before-at.ensures
