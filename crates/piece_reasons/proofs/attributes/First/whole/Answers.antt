@@ -5,9 +5,9 @@ use Rattle.piece_reasons.proofs.Found.{no_value, equals_here, whole_of}
 use Rattle.piece_reasons.proofs.attributes.First.whole.Goals as goal
 
 pub returns-in-Err-clause-whole : goal.returns-in-Err-clause-whole
-returns-in-Err-clause-whole c = λ entities rules done.
+returns-in-Err-clause-whole c = λ entities declared done.
     let e : c.split-2.result.1.now ≡ 61 ∷ c.in-Some-eq61-default.at_value.now = search rules in
-    no_value entities rules done c.args.self.now.left.now c.args.self.now.name.now c.args.self.now.behind.now c.in-Some-eq61-default.at_value.now c.in-Err.why
+    no_value entities declared done c.args.self.now.left.now c.args.self.now.name.now c.args.self.now.behind.now c.in-Some-eq61-default.at_value.now c.in-Err.why
     (equals_here c.args.self.now.behind.now c.split-2.result.1.now c.in-Some-eq61-default.at_value.now c.split-2.ensures.rest e)
     (subst (λ (xs : List ℕ). IsNoValue xs c.in-Err.why) c.split-3.ensures.rest c.in-Err.ensures)
 

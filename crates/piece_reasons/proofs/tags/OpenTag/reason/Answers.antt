@@ -24,7 +24,7 @@ loop-first-preserved c =
     let h = subst (λ (xs : List ℕ). HasCome behind (map attribute_of ys) xs) (sym c.in-Some.ensures) c.loop-first.invariant in
     let w : IsWhole left (attribute_of a) rest × IsAttribute (attribute_of a) = search rules in
     let m = come_more behind left (map attribute_of ys) (attribute_of a) rest h w.0 w.1 in
-    subst (λ (xs : List parts.Attribute). HasCome behind xs rest) (sym (ap (map attribute_of) c.in_ok-push.ensures.items ∙ map_push attribute_of ys a)) m
+    subst (λ (xs : List parts.Attribute). HasCome behind xs rest) (sym (ap (map attribute_of) c.in_ok-push-in-Ok.ensures.items ∙ map_push attribute_of ys a)) m
 
 pub loop-first-smaller : goal.loop-first-smaller
 loop-first-smaller c =
