@@ -25,7 +25,7 @@ pub struct Head<'c> {
 }
 
 /// The lawful piece at the head of the characters; none where there is none.
-pub fn head<'c>(
+pub fn head_at<'c>(
     alloc: Global,
     indexed: &IndexedDtd<'_>,
     place: Place,

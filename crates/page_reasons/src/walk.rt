@@ -4,7 +4,7 @@ ghost use Rattle.std.specs.Prelude.{◌≡◌, ◌+◌, ◌++◌, ℕ, List, IfO
 ghost use Rattle.std.specs.Str.{encode_utf8_all};
 ghost use Rattle.page_reasons.specs.Links.{AreBuilt, IsJudged, table_in};
 
-use crate::heads::head;
+use crate::heads::head_at;
 use crate::reasons::{Fault, Reason};
 use crate::rules::Rules;
 use crate::tree::Tree;
@@ -30,7 +30,7 @@ pub fn walk(
     let mut at = 0usize;
     let mut rest = cs;
     while !rest.is_empty() {
-        let Some(head) = head(alloc, rules.indexed, place, rest)? else {
+        let Some(head) = head_at(alloc, rules.indexed, place, rest)? else {
             let site = Site {
                 indexed: rules.indexed,
                 size,

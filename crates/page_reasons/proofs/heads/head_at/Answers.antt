@@ -9,7 +9,7 @@ use Rattle.page_rules.specs.declared.piece_tokens.Taken.{Taken}
 use Rattle.page_validator.proofs.Steps.{not_read, not_right, not_allowed, is_cut}
 use Rattle.page_reasons.specs.Links.{AreDeclared}
 use Rattle.page_reasons.proofs.Heads.{piece_declared}
-use Rattle.page_reasons.proofs.heads.head.Goals as goal
+use Rattle.page_reasons.proofs.heads.head_at.Goals as goal
 
 pub returns-in_default : goal.returns-in_default
 returns-in_default c =
