@@ -9,7 +9,7 @@ use Rattle.derivatives.proofs.NormalForms.{chain_shown, chain_made, either_shown
 use Rattle.partial_derivatives.specs.declared.part.Member.{Member}
 use Rattle.partial_derivatives.specs.declared.part.Part.{Part}
 use Rattle.partial_derivatives.specs.declared.part.Part.TheVariants.{Whole, Among}
-use Rattle.partial_derivatives.specs.Parts.{first_at, second_at, members_from, part_expr, InTurn, goes_on, listed, is_star, parts_at, behind, behind_list, behind_members, behind_part}
+use Rattle.partial_derivatives.specs.Parts.{first_at, second_at, members_from, part_expr, InTurn, goes_on, listed, begins_star, parts_at, behind, behind_list, behind_members, behind_part}
 use Rattle.partial_derivatives.specs.Laws.{OneMatches}
 use Rattle.partial_derivatives.proofs.Joined.{assoc, assoc_back, nothing_before, one_left, one_right, one_of}
 use Rattle.partial_derivatives.proofs.Fits.{fit_at, fit_list}
@@ -94,11 +94,15 @@ put_before a p e rest w q s = goes_on s.joins (subst (λ (o : Expr). Matches o s
 
 -- the parts of an expression match what it matches as a whole
 chain_again : (a : Arena) (x y : Expr) (n : ℕ) (rest : List Part) (w : List ℕ) → expr_at a n ≡ chain x y → expr_at a (first_at a n) ≡ x → expr_at a (second_at a n) ≡ y
+    → (InTurn a (parts_at a x (first_at a n) ++ (parts_at a y (second_at a n) ++ rest)) w → InTurn a (Whole (first_at a n) ∷ (parts_at a y (second_at a n) ++ rest)) w)
     → ((v : List ℕ) → InTurn a (parts_at a y (second_at a n) ++ rest) v → InTurn a (Whole (second_at a n) ∷ rest) v) → (t : Bool)
-    → InTurn a ((if t then Whole (first_at a n) ∷ parts_at a y (second_at a n) else Whole n ∷ []) ++ rest) w → InTurn a (Whole n ∷ rest) w
-chain_again a x y n rest w q f g again false k = k
-chain_again a x y n rest w q f g again true k =
-    let s = with_others a (expr_at a (first_at a n)) (parts_at a y (second_at a n) ++ rest) (Whole (second_at a n) ∷ rest) w again (taken_off a (Whole (first_at a n)) (parts_at a y (second_at a n) ++ rest) w k) in
+    → InTurn a ((if t then parts_at a x (first_at a n) ++ parts_at a y (second_at a n) else Whole n ∷ []) ++ rest) w → InTurn a (Whole n ∷ rest) w
+chain_again a x y n rest w q f g once again false k = k
+chain_again a x y n rest w q f g once again true k =
+    let parts = parts_at a y (second_at a n) ++ rest in
+    let together = append_assoc (parts_at a x (first_at a n)) (parts_at a y (second_at a n)) rest in
+    let whole = once (subst (λ (ps : List Part). InTurn a ps w) together k) in
+    let s = with_others a (expr_at a (first_at a n)) parts (Whole (second_at a n) ∷ rest) w again (taken_off a (Whole (first_at a n)) parts w whole) in
     let t : Splits a x (Whole (second_at a n) ∷ rest) w = subst (λ (o : Expr). Splits a o (Whole (second_at a n) ∷ rest) w) f s in
     put_before a (Whole n) (chain x y) rest w q (chained a x y (Whole (second_at a n)) rest w g t)
 
@@ -108,7 +112,8 @@ whole_again a empty n rest w q k = k
 whole_again a (range low high) n rest w q k = k
 whole_again a (chain x y) n rest w q k =
     let f = fit_at a n (chain x y) q in
-    chain_again a x y n rest w q f.0 f.1 (λ v t. whole_again a y (second_at a n) rest v f.1 t) (is_star x) k
+    chain_again a x y n rest w q f.0 f.1 (λ t. whole_again a x (first_at a n) (parts_at a y (second_at a n) ++ rest) w f.0 t)
+    (λ v t. whole_again a y (second_at a n) rest v f.1 t) (begins_star x) k
 whole_again a (either x y) n rest w q k = k
 whole_again a (star x) n rest w q k = k
 whole_again a (among ms) n rest w q k = k
@@ -177,13 +182,16 @@ unchained a x y p rest w q s = at s.is
     }
 
 chain_in_parts : (a : Arena) (x y : Expr) (n : ℕ) (rest : List Part) (w : List ℕ) → expr_at a n ≡ chain x y → expr_at a (first_at a n) ≡ x → expr_at a (second_at a n) ≡ y
+    → (InTurn a (Whole (first_at a n) ∷ (parts_at a y (second_at a n) ++ rest)) w → InTurn a (parts_at a x (first_at a n) ++ (parts_at a y (second_at a n) ++ rest)) w)
     → ((v : List ℕ) → InTurn a (Whole (second_at a n) ∷ rest) v → InTurn a (parts_at a y (second_at a n) ++ rest) v) → (t : Bool)
-    → InTurn a (Whole n ∷ rest) w → InTurn a ((if t then Whole (first_at a n) ∷ parts_at a y (second_at a n) else Whole n ∷ []) ++ rest) w
-chain_in_parts a x y n rest w q f g again false k = k
-chain_in_parts a x y n rest w q f g again true k =
+    → InTurn a (Whole n ∷ rest) w → InTurn a ((if t then parts_at a x (first_at a n) ++ parts_at a y (second_at a n) else Whole n ∷ []) ++ rest) w
+chain_in_parts a x y n rest w q f g once again false k = k
+chain_in_parts a x y n rest w q f g once again true k =
+    let parts = parts_at a y (second_at a n) ++ rest in
+    let together = append_assoc (parts_at a x (first_at a n)) (parts_at a y (second_at a n)) rest in
     let s : Splits a (chain x y) rest w = subst (λ (o : Expr). Splits a o rest w) q (taken_off a (Whole n) rest w k) in
-    put_before a (Whole (first_at a n)) x (parts_at a y (second_at a n) ++ rest) w f
-    (with_others a x (Whole (second_at a n) ∷ rest) (parts_at a y (second_at a n) ++ rest) w again (unchained a x y (Whole (second_at a n)) rest w g s))
+    let t = with_others a x (Whole (second_at a n) ∷ rest) parts w again (unchained a x y (Whole (second_at a n)) rest w g s) in
+    subst (λ (ps : List Part). InTurn a ps w) (sym together) (once (put_before a (Whole (first_at a n)) x parts w f t))
 
 in_parts_again : (a : Arena) (e : Expr) (n : ℕ) (rest : List Part) (w : List ℕ) → expr_at a n ≡ e → InTurn a (Whole n ∷ rest) w → InTurn a (parts_at a e n ++ rest) w
 in_parts_again a nothing n rest w q k = k
@@ -191,7 +199,8 @@ in_parts_again a empty n rest w q k = k
 in_parts_again a (range low high) n rest w q k = k
 in_parts_again a (chain x y) n rest w q k =
     let f = fit_at a n (chain x y) q in
-    chain_in_parts a x y n rest w q f.0 f.1 (λ v t. in_parts_again a y (second_at a n) rest v f.1 t) (is_star x) k
+    chain_in_parts a x y n rest w q f.0 f.1 (λ t. in_parts_again a x (first_at a n) (parts_at a y (second_at a n) ++ rest) w f.0 t)
+    (λ v t. in_parts_again a y (second_at a n) rest v f.1 t) (begins_star x) k
 in_parts_again a (either x y) n rest w q k = k
 in_parts_again a (star x) n rest w q k = k
 in_parts_again a (among ms) n rest w q k = k

@@ -60,15 +60,16 @@ abbrev pub listed : Arena → Members → ℕ → List Member
 listed a none n = []
 listed a (member e q ms) n = record { place = first_at a n; required = q } ∷ listed a ms (second_at a n)
 
--- the expression is any number of texts of another
-abbrev pub is_star : Expr → Bool
-is_star (star x) = true
-is_star e = false
+-- the expression begins with any number of texts of another
+abbrev pub begins_star : Expr → Bool
+begins_star (star x) = true
+begins_star (chain x y) = begins_star x
+begins_star e = false
 
 -- an expression as parts in turn: of a chain that begins with any number of texts of another, these are a part of their own, so that before
 -- such a text and behind it there are the same parts
 abbrev pub parts_at : Arena → Expr → ℕ → List Part
-parts_at a (chain x y) n = if is_star x then Whole (first_at a n) ∷ parts_at a y (second_at a n) else Whole n ∷ []
+parts_at a (chain x y) n = if begins_star x then parts_at a x (first_at a n) ++ parts_at a y (second_at a n) else Whole n ∷ []
 parts_at a e n = Whole n ∷ []
 
 abbrev mutual

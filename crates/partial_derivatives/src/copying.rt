@@ -52,17 +52,17 @@ pub(crate) fn before(alloc: Global, part: Part, rest: &[Part]) -> Result<Row<Par
     Ok(row)
 }
 
-/// Whether an expression is any number of texts of another.
-fn is_star(arena: &Arena, place: usize) -> bool
+/// Whether an expression begins with any number of texts of another.
+fn begins_star(arena: &Arena, place: usize) -> bool
     requires { IsExpr arena.now place }
-    ensures { result ≡ spec.is_star (expr_at arena.now place) }
+    ensures { result ≡ spec.begins_star (expr_at arena.now place) }
 {
     match arena.node(place) {
         Node::Star(_) => true,
+        Node::Chain(x, _) => begins_star(arena, x),
         Node::Nothing
         | Node::Empty
         | Node::Range(_, _)
-        | Node::Chain(_, _)
         | Node::Either(_, _)
         | Node::Among(_)
         | Node::NoMore
@@ -78,8 +78,8 @@ fn push_parts(arena: &Arena, row: &mut Row<Part>, place: usize) -> Result<(), No
 {
     match arena.node(place) {
         Node::Chain(x, y) => {
-            if is_star(arena, x) {
-                row.push(Part::Whole(x))?;
+            if begins_star(arena, x) {
+                push_parts(arena, row, x)?;
                 push_parts(arena, row, y)
             } else {
                 row.push(Part::Whole(place))

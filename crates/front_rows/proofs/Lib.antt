@@ -1,0 +1,4 @@
+mod Pieces
+mod Seeing
+mod Once
+mod Classes

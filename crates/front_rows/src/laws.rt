@@ -1,0 +1,24 @@
+//! The laws. Each function does nothing, and stands for the law that its contract states.
+
+ghost use Rattle.front_rows.specs.Laws.{ClassesLeaveOneRow, RowsAreSeen, RowsStayParts, SeenOnce};
+
+/// The rows that a byte leaves of parts in an arena are seen as those that it leaves of what the
+/// parts stand for.
+pub fn rows_are_seen()
+    ensures { RowsAreSeen }
+{}
+
+/// The rows that a byte leaves of parts in an arena are parts in it.
+pub fn rows_stay_parts()
+    ensures { RowsStayParts }
+{}
+
+/// Rows in an arena that are seen as one are one, where an expression has one number there.
+pub fn rows_are_seen_once()
+    ensures { SeenOnce }
+{}
+
+/// A byte leaves one row of a class of bytes where it passes, and else none.
+pub fn classes_leave_one_row()
+    ensures { ClassesLeaveOneRow }
+{}
