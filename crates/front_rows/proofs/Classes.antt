@@ -1,8 +1,7 @@
 -- A byte leaves one row of a class of bytes where it passes, and else none.
 use Rattle.std.proofs.Common.{◌≡◌, ◌⊎◌, inl, inr, ◌<◌, ◌≤◌, ℕ, zero, suc, Bool, true, false, ◌&&◌, List, [], ◌∷◌, ◌++◌, Option, Some, None, refl, sym, ◌∙◌, ap, subst, arith, append-nil, append_assoc}
 use Rattle.std.specs.Prelude.{if◌then◌else◌, ◌||◌, nat_lt, nat_le, nat_eq, ⊤}
-use Rattle.std.proofs.lemmas.Bool.Decides.{nat_tests}
-use Rattle.std.proofs.lemmas.Bool.{le-leb, lt-leb, lt-ltb, le-ltb, ne_eqb, leb-true, ltb-true, and_parts}
+use Rattle.std.proofs.lemmas.Bool.{le-leb, lt-leb, lt-ltb, le-ltb, ne_eqb, cases_lt, cases_order, and_from, and_left, and_right, or_left, or_right}
 use Rattle.derivatives.specs.Expressions.{Expr, nothing, empty, range, chain, either, star, among, lies}
 use Rattle.derivatives.specs.Derivatives.{same, occurs, beside, unless_occurs, either_of}
 use Rattle.byte_forms.specs.Ranges.{ranges_below}
@@ -78,18 +77,57 @@ none_below b = le-ltb b 0 (omega arith)
 
 -- the next byte does not pass
 skipped : (t : Bool) (b n : ℕ) → (b ≡ n → t ≡ false) → (nat_lt b n && t) ≡ (nat_lt b (suc n) && t)
-skipped t b n h = grind (arith, nat_tests)
+skipped t b n h = at (cases_order b n)
+  where
+    at : (b ≡ n) ⊎ ((b < n) ⊎ (n < b)) → (nat_lt b n && t) ≡ (nat_lt b (suc n) && t)
+    at (inl e) = and_right (nat_lt b n) t (h e) ∙ sym (and_right (nat_lt b (suc n)) t (h e))
+    at (inr (inl l)) = ap (λ (z : Bool). z && t) (lt-ltb b n l ∙ sym (lt-ltb b (suc n) (omega (arith, l))))
+    at (inr (inr l)) = ap (λ (z : Bool). z && t) (le-ltb b n (omega (arith, l)) ∙ sym (le-ltb b (suc n) (omega (arith, l))))
+
+or_no : (t : Bool) → (t || false) ≡ t
+or_no true = refl
+or_no false = refl
 
 -- the next byte passes, and opens a range
-opened : (t : Bool) (b n : ℕ) → (b ≡ n → t ≡ true) → ((nat_lt b n && t) || lies n n b) ≡ (nat_lt b (suc n) && t)
-opened t b n h = grind (arith, nat_tests)
+opened : (t : Bool) (b n : ℕ) → (b ≡ n → t ≡ true) → ((nat_lt b n && t) || (nat_le n b && nat_le b n)) ≡ (nat_lt b (suc n) && t)
+opened t b n h = at (cases_order b n)
+  where
+    at : (b ≡ n) ⊎ ((b < n) ⊎ (n < b)) → ((nat_lt b n && t) || (nat_le n b && nat_le b n)) ≡ (nat_lt b (suc n) && t)
+    at (inl e) =
+        or_right (nat_lt b n && t) (nat_le n b && nat_le b n) (and_from (nat_le n b) (nat_le b n) (le-leb n b (omega (arith, e))) (le-leb b n (omega (arith, e))))
+        ∙ sym (and_from (nat_lt b (suc n)) t (lt-ltb b (suc n) (omega (arith, e))) (h e))
+    at (inr (inl l)) =
+        ap (λ (z : Bool). (nat_lt b n && t) || z) (and_left (nat_le n b) (nat_le b n) (lt-leb n b l))
+        ∙ or_no (nat_lt b n && t)
+        ∙ ap (λ (z : Bool). z && t) (lt-ltb b n l ∙ sym (lt-ltb b (suc n) (omega (arith, l))))
+    at (inr (inr l)) =
+        ap (λ (z : Bool). (nat_lt b n && t) || z) (and_right (nat_le n b) (nat_le b n) (lt-leb b n l))
+        ∙ or_no (nat_lt b n && t)
+        ∙ ap (λ (z : Bool). z && t) (le-ltb b n (omega (arith, l)) ∙ sym (le-ltb b (suc n) (omega (arith, l))))
 
 -- or goes on with one
-longer : (t : Bool) (b n last : ℕ) → suc n ≤ last → (b ≡ n → t ≡ true) → ((nat_lt b n && t) || lies n last b) ≡ ((nat_lt b (suc n) && t) || lies (suc n) last b)
-longer t b n last l h = grind (arith, nat_tests)
+longer : (t : Bool) (b n last : ℕ) → suc n ≤ last → (b ≡ n → t ≡ true)
+    → ((nat_lt b n && t) || (nat_le n b && nat_le b last)) ≡ ((nat_lt b (suc n) && t) || (nat_le (suc n) b && nat_le b last))
+longer t b n last w h = at (cases_order b n)
+  where
+    by : nat_lt b n ≡ nat_lt b (suc n) → nat_le n b ≡ nat_le (suc n) b
+        → ((nat_lt b n && t) || (nat_le n b && nat_le b last)) ≡ ((nat_lt b (suc n) && t) || (nat_le (suc n) b && nat_le b last))
+    by p q = ap (λ (z : Bool). (z && t) || (nat_le n b && nat_le b last)) p ∙ ap (λ (z : Bool). (nat_lt b (suc n) && t) || (z && nat_le b last)) q
 
-apart : (t : Bool) (b n last : ℕ) → ((nat_lt b n && t) && lies (suc n) last b) ≡ false
-apart t b n last = grind (arith, nat_tests)
+    at : (b ≡ n) ⊎ ((b < n) ⊎ (n < b)) → ((nat_lt b n && t) || (nat_le n b && nat_le b last)) ≡ ((nat_lt b (suc n) && t) || (nat_le (suc n) b && nat_le b last))
+    at (inl e) =
+        or_right (nat_lt b n && t) (nat_le n b && nat_le b last) (and_from (nat_le n b) (nat_le b last) (le-leb n b (omega (arith, e))) (le-leb b last (omega (arith, e, w))))
+        ∙ sym (or_left (nat_lt b (suc n) && t) (nat_le (suc n) b && nat_le b last) (and_from (nat_lt b (suc n)) t (lt-ltb b (suc n) (omega (arith, e))) (h e)))
+    at (inr (inl l)) = by (lt-ltb b n l ∙ sym (lt-ltb b (suc n) (omega (arith, l)))) (lt-leb n b l ∙ sym (lt-leb (suc n) b (omega (arith, l))))
+    at (inr (inr l)) =
+        by (le-ltb b n (omega (arith, l)) ∙ sym (le-ltb b (suc n) (omega (arith, l)))) (le-leb n b (omega (arith, l)) ∙ sym (le-leb (suc n) b (omega (arith, l))))
+
+apart : (t : Bool) (b n last : ℕ) → ((nat_lt b n && t) && (nat_le (suc n) b && nat_le b last)) ≡ false
+apart t b n last = at (cases_lt b n)
+  where
+    at : (b < n) ⊎ (n ≤ b) → ((nat_lt b n && t) && (nat_le (suc n) b && nat_le b last)) ≡ false
+    at (inl l) = and_right (nat_lt b n && t) (nat_le (suc n) b && nat_le b last) (and_left (nat_le (suc n) b) (nat_le b last) (lt-leb (suc n) b (omega (arith, l))))
+    at (inr l) = and_left (nat_lt b n && t) (nat_le (suc n) b && nat_le b last) (and_left (nat_lt b n) t (le-ltb b n l))
 
 -- two tests of which one holds at most
 one_of : (s t : Bool) (rest : List Seen) → (s && t) ≡ false → one_if s rest ++ one_if t rest ≡ one_if (s || t) rest
@@ -118,7 +156,6 @@ ranges_rows test b rest (suc n) (Some last) e w d =
     at (test n) refl (ranges_rows test b rest n (Some last) e (omega (arith, w)) d)
     (ranges_rows test b rest n None (either_of (range (suc n) last) e) tt (put_from (suc n) last e (omega arith) w d))
   where
-
     at : (t : Bool) → test n ≡ t → rows b (ranges_below test n (Some last) e) rest ≡ one_if (found test n (Some last) b) rest ++ rows b e rest
         → rows b (ranges_below test n None (either_of (range (suc n) last) e)) rest ≡ one_if (nat_lt b n && test b) rest ++ rows b (either_of (range (suc n) last) e) rest
         → rows b (if t then ranges_below test n (Some last) e else ranges_below test n None (either_of (range (suc n) last) e)) rest

@@ -1,4 +1,5 @@
 mod Pieces
 mod Seeing
 mod Once
+mod Full
 mod Classes

@@ -4,7 +4,8 @@ use Rattle.std.specs.Prelude.{if◌then◌else◌, ⊤}
 use Rattle.derivatives.specs.Expressions.{Expr, nothing, empty, range, chain, either, star, among, Members, none, member, lies}
 use Rattle.derivatives.specs.Derivatives.{may_end}
 use Rattle.derivatives.specs.Nodes.{is_expr_at, is_list_at}
-use Rattle.derivatives.specs.Standing.{expr_at, members_at, expr_of, members_of, IsExpr, IsList, HasEachOnce}
+use Rattle.derivatives.specs.Standing.{expr_at, members_at, expr_of, members_of, expr_within, members_within, IsExpr, HasEachOnce}
+use Rattle.derivatives.proofs.NodeLemmas.{members_shown}
 use Rattle.derivatives.specs.declared.arena.Arena.{Arena}
 use Rattle.derivatives.specs.declared.node.Node.{Node}
 use Rattle.derivatives.specs.declared.node.Node.TheVariants as node
@@ -12,7 +13,7 @@ use Rattle.partial_derivatives.specs.declared.part.Member.{Member}
 use Rattle.partial_derivatives.specs.declared.part.Part.{Part}
 use Rattle.partial_derivatives.specs.declared.part.Part.TheVariants.{Whole, Among}
 use Rattle.partial_derivatives.specs.Parts.{first_of, second_of, first_at, second_at, members_from, part_expr, listed, begins_star, parts_at, behind, behind_list, behind_members, behind_part, behind_parts}
-use Rattle.partial_derivatives.proofs.Fits.{fit_at, fit_list, expr_by, list_by}
+use Rattle.partial_derivatives.proofs.Fits.{fit_at, fit_list, expr_by}
 use Rattle.front_rows.specs.Seen.{Seen, whole, left, seen, seen_row}
 use Rattle.front_rows.specs.Laws.{AreMembersOf, IsPartOf, ArePartsOf, AreRowsOf, RowsStayParts, SeenOnce}
 use Rattle.front_rows.proofs.Pieces.{before}
@@ -55,8 +56,13 @@ member_by a none n o q h = tt
 member_by a (member e r ms) n (Some (node.Member i p j)) q h = subst (λ (z : Option Node). IsExpr a (first_of z)) (sym q) (a.built n (node.Member i p j) q).1.0
 member_by a (member e r ms) n o q h = cc
 
+no_list : (a : Arena) (n : ℕ) → slice_get a.nodes.keys n ≡ None → members_at a n ≡ none
+unfolding members_at
+no_list a n q = ap (members_of (expr_within a.nodes.keys n) (members_within a.nodes.keys n)) q
+
 list_at : (a : Arena) (n : ℕ) (o : Option Node) → slice_get a.nodes.keys n ≡ o → members_at a n ≡ members_of (expr_at a) (members_at a) o
-list_at a n o q = list_by a n o q
+list_at a n (Some x) q = members_shown a n x q
+list_at a n None q = no_list a n q
 
 has_member : (a : Arena) (ms : Members) (n : ℕ) → members_at a n ≡ ms → HasMember a ms n
 has_member a ms n h = member_by a ms n (slice_get a.nodes.keys n) refl (sym (list_at a n (slice_get a.nodes.keys n) refl) ∙ h)
@@ -160,8 +166,9 @@ member_same e = (cc, cc, cc)
 cons_same : {x y : Seen} {xs ys : List Seen} → x ∷ xs ≡ y ∷ ys → (x ≡ y) × (xs ≡ ys)
 cons_same e = (cc, cc)
 
-member_of : {i j : ℕ} {q p : Bool} → i ≡ j → q ≡ p → (let m : Member = record { place = i; required = q } in m) ≡ record { place = j; required = p }
-member_of f g = λ i. record { place = f i; required = g i }
+member_of : {i j : ℕ} {q p : Bool} → i ≡ j → q ≡ p → (let m : Member = record { place = i; required = q } in m) ≡ (let m : Member = record { place = j; required = p } in m)
+member_of {j = j} {q = q} f g =
+    ap (λ (z : ℕ). let m : Member = record { place = z; required = q } in m) f ∙ ap (λ (z : Bool). let m : Member = record { place = j; required = z } in m) g
 
 same_members : (a : Arena) → HasEachOnce a → (ms ns : List Member) → AreMembersOf a ms → AreMembersOf a ns → members_from a ms ≡ members_from a ns → ms ≡ ns
 same_members a once [] [] h g e = refl

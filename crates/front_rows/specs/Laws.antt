@@ -1,12 +1,13 @@
 -- The laws, as statements.
-use Rattle.std.specs.Prelude.{◌≡◌, ◌&&◌, ℕ, Bool, nat_lt, if◌then◌else◌, ⊤, List, [], ◌∷◌, map}
+use Rattle.std.specs.Prelude.{◌≡◌, ◌&&◌, ℕ, Bool, true, nat_lt, if◌then◌else◌, ⊤, List, [], ◌∷◌, ◌++◌, map}
+use Rattle.derivatives.specs.Derivatives.{is_full}
 use Rattle.derivatives.specs.Standing.{IsExpr, HasEachOnce}
 use Rattle.derivatives.specs.declared.arena.Arena.{Arena}
 use Rattle.page_forms.specs.Words.{ascii}
 use Rattle.partial_derivatives.specs.declared.part.Member.{Member}
 use Rattle.partial_derivatives.specs.declared.part.Part.{Part}
 use Rattle.partial_derivatives.specs.declared.part.Part.TheVariants.{Whole, Among}
-use Rattle.partial_derivatives.specs.Parts.{behind_parts}
+use Rattle.partial_derivatives.specs.Parts.{part_expr, InTurn, behind_parts}
 use Rattle.front_rows.specs.Seen.{Seen, seen_row, rows, rows_in_turn}
 
 -- what a byte leaves of parts of an arena is seen as what it leaves of what they stand for
@@ -44,3 +45,27 @@ SeenOnce = (a : Arena) → HasEachOnce a → (ps qs : List Part) → ArePartsOf 
 -- a byte leaves one row of a class of bytes where it passes, and else none
 abbrev pub ClassesLeaveOneRow : Type 0
 ClassesLeaveOneRow = (test : ℕ → Bool) (b : ℕ) (rest : List Seen) → rows b (ascii test) rest ≡ (if nat_lt b 128 && test b then rest ∷ [] else [])
+
+-- no part of what is still to come is nothing
+abbrev pub AreFullParts : Arena → List Part → Type 0
+AreFullParts a [] = ⊤
+AreFullParts a (p ∷ ps) = (is_full (part_expr a p) ≡ true) × AreFullParts a ps
+
+-- what a byte leaves of rows, and what a text does
+abbrev pub all_behind : Arena → ℕ → List (List Part) → List (List Part)
+all_behind a b [] = []
+all_behind a b (ps ∷ others) = behind_parts a b ps ++ all_behind a b others
+
+-- and what a text leaves
+abbrev pub rows_left : Arena → List ℕ → List (List Part) → List (List Part)
+rows_left a [] others = others
+rows_left a (b ∷ bs) others = rows_left a bs (all_behind a b others)
+
+-- where a row is left behind a text, more makes it a whole one
+abbrev pub RowsGoOn : Type 0
+RowsGoOn = (a : Arena) (ps : List Part) → AreFullParts a ps → (bs : List ℕ) (row : List Part) (others : List (List Part))
+    → rows_left a bs (ps ∷ []) ≡ row ∷ others → (more : List ℕ) × InTurn a ps (bs ++ more)
+
+-- and where none is, nothing does
+abbrev pub NoRowsEnd : Type 0
+NoRowsEnd = (a : Arena) (ps : List Part) (bs more : List ℕ) → rows_left a bs (ps ∷ []) ≡ [] → InTurn a ps (bs ++ more) → ⊥

@@ -1,6 +1,6 @@
 //! The laws. Each function does nothing, and stands for the law that its contract states.
 
-ghost use Rattle.front_rows.specs.Laws.{ClassesLeaveOneRow, RowsAreSeen, RowsStayParts, SeenOnce};
+ghost use Rattle.front_rows.specs.Laws.{ClassesLeaveOneRow, NoRowsEnd, RowsAreSeen, RowsGoOn, RowsStayParts, SeenOnce};
 
 /// The rows that a byte leaves of parts in an arena are seen as those that it leaves of what the
 /// parts stand for.
@@ -21,4 +21,14 @@ pub fn rows_are_seen_once()
 /// A byte leaves one row of a class of bytes where it passes, and else none.
 pub fn classes_leave_one_row()
     ensures { ClassesLeaveOneRow }
+{}
+
+/// Where a text leaves a row of parts of which none fails, more makes it one that they match.
+pub fn rows_go_on()
+    ensures { RowsGoOn }
+{}
+
+/// Where a text leaves no row, no more does.
+pub fn no_rows_end()
+    ensures { NoRowsEnd }
 {}
