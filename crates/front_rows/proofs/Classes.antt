@@ -24,10 +24,10 @@ lower l (first_range f g d) = first_range (omega (arith, l, f)) g d
 
 -- The range is none of those behind it.
 
-differs : (low high first last : ℕ) → low < first → (nat_eq low first && nat_eq high last) ≡ false
+pub differs : (low high first last : ℕ) → low < first → (nat_eq low first && nat_eq high last) ≡ false
 differs low high first last l = ap (λ (t : Bool). t && nat_eq high last) (ne_eqb low first (λ e. omega (arith, l, e)))
 
-neither : (s t : Bool) → s ≡ false → t ≡ false → (s || t) ≡ false
+pub neither : (s t : Bool) → s ≡ false → t ≡ false → (s || t) ≡ false
 neither true t p q = cc
 neither false t p q = q
 
@@ -58,7 +58,7 @@ beside_from f g no_range = last_range f g
 beside_from f g (last_range a b) = first_range f g (last_range a b)
 beside_from f g (first_range a b d) = first_range f g (first_range a b d)
 
-put_from : {n : ℕ} (low high : ℕ) (e : Expr) → n ≤ low → low ≤ high → FromOn (suc high) e → FromOn n (either_of (range low high) e)
+pub put_from : {n : ℕ} (low high : ℕ) (e : Expr) → n ≤ low → low ≤ high → FromOn (suc high) e → FromOn n (either_of (range low high) e)
 put_from {n} low high e f g d =
     subst (λ (t : Bool). FromOn n (unless_occurs t (range low high) e)) (sym (not_there low high (omega (arith, g)) d)) (beside_from f g d)
 
@@ -68,7 +68,7 @@ abbrev found : (ℕ → Bool) → ℕ → Option ℕ → ℕ → Bool
 found test n None b = nat_lt b n && test b
 found test n (Some last) b = (nat_lt b n && test b) || lies n last b
 
-abbrev Behind : ℕ → Option ℕ → Expr → Type 0
+abbrev pub Behind : ℕ → Option ℕ → Expr → Type 0
 Behind n None e = FromOn n e
 Behind n (Some last) e = FromOn (suc last) e
 

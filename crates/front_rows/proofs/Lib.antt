@@ -3,3 +3,4 @@ mod Seeing
 mod Once
 mod Full
 mod Classes
+mod Alternatives

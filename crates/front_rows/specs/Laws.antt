@@ -1,14 +1,16 @@
 -- The laws, as statements.
 use Rattle.std.specs.Prelude.{◌≡◌, ◌&&◌, ℕ, Bool, true, nat_lt, if◌then◌else◌, ⊤, List, [], ◌∷◌, ◌++◌, map}
-use Rattle.derivatives.specs.Derivatives.{is_full}
+use Rattle.xml_text.specs.Characters.{is_character}
+use Rattle.derivatives.specs.Expressions.{Expr}
+use Rattle.derivatives.specs.Derivatives.{is_full, either_of}
 use Rattle.derivatives.specs.Standing.{IsExpr, HasEachOnce}
 use Rattle.derivatives.specs.declared.arena.Arena.{Arena}
-use Rattle.page_forms.specs.Words.{ascii}
+use Rattle.page_forms.specs.Words.{ascii, beyond_ascii, character_of}
 use Rattle.partial_derivatives.specs.declared.part.Member.{Member}
 use Rattle.partial_derivatives.specs.declared.part.Part.{Part}
 use Rattle.partial_derivatives.specs.declared.part.Part.TheVariants.{Whole, Among}
 use Rattle.partial_derivatives.specs.Parts.{part_expr, InTurn, behind_parts}
-use Rattle.front_rows.specs.Seen.{Seen, seen_row, rows, rows_in_turn}
+use Rattle.front_rows.specs.Seen.{Seen, seen_row, are_apart, rows, rows_in_turn}
 
 -- what a byte leaves of parts of an arena is seen as what it leaves of what they stand for
 abbrev pub RowsAreSeen : Type 0
@@ -69,3 +71,12 @@ RowsGoOn = (a : Arena) (ps : List Part) → AreFullParts a ps → (bs : List ℕ
 -- and where none is, nothing does
 abbrev pub NoRowsEnd : Type 0
 NoRowsEnd = (a : Arena) (ps : List Part) (bs more : List ℕ) → rows_left a bs (ps ∷ []) ≡ [] → InTurn a ps (bs ++ more) → ⊥
+
+-- alternatives leave what each of them does, where none stands twice
+abbrev pub AlternativesLeaveTheirs : Type 0
+AlternativesLeaveTheirs = (b : ℕ) (rest : List Seen) (x y : Expr) → are_apart x y ≡ true → rows b (either_of x y) rest ≡ rows b x rest ++ rows b y rest
+
+-- a byte leaves one row of characters that pass a test where it is such a character of ASCII, and else what it leaves of those beyond
+abbrev pub CharactersLeave : Type 0
+CharactersLeave = (test : ℕ → Bool) (b : ℕ) (rest : List Seen)
+    → rows b (character_of test) rest ≡ (if nat_lt b 128 && (is_character b && test b) then rest ∷ [] else []) ++ rows b beyond_ascii rest

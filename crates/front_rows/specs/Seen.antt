@@ -1,8 +1,8 @@
 -- What a byte leaves of expressions, as rows of expressions and not of their numbers (Antimirov, "Partial derivatives of regular expressions
 -- and finite automaton constructions", 1996).
-use Rattle.std.specs.Prelude.{ℕ, Bool, true, false, if◌then◌else◌, List, [], ◌∷◌, ◌++◌, map}
+use Rattle.std.specs.Prelude.{ℕ, Bool, true, false, not, ◌&&◌, if◌then◌else◌, List, [], ◌∷◌, ◌++◌, map}
 use Rattle.derivatives.specs.Expressions.{Expr, nothing, empty, range, chain, either, star, among, Members, none, member, lies}
-use Rattle.derivatives.specs.Derivatives.{may_end}
+use Rattle.derivatives.specs.Derivatives.{may_end, occurs, either_of}
 use Rattle.derivatives.specs.Standing.{expr_at}
 use Rattle.derivatives.specs.declared.arena.Arena.{Arena}
 use Rattle.partial_derivatives.specs.declared.part.Part.{Part}
@@ -73,3 +73,9 @@ rows_behind b (ps ∷ others) = rows_in_turn b ps ++ rows_behind b others
 abbrev pub rows_over : List ℕ → List (List Seen) → List (List Seen)
 rows_over [] others = others
 rows_over (b ∷ bs) others = rows_over bs (rows_behind b others)
+
+-- none of the first alternatives is one of the others, those behind it among them
+abbrev pub are_apart : Expr → Expr → Bool
+are_apart nothing y = true
+are_apart (either s t) y = are_apart s (either_of t y) && are_apart t y
+are_apart x y = not (occurs x y)

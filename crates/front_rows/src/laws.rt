@@ -1,6 +1,6 @@
 //! The laws. Each function does nothing, and stands for the law that its contract states.
 
-ghost use Rattle.front_rows.specs.Laws.{ClassesLeaveOneRow, NoRowsEnd, RowsAreSeen, RowsGoOn, RowsStayParts, SeenOnce};
+ghost use Rattle.front_rows.specs.Laws.{AlternativesLeaveTheirs, CharactersLeave, ClassesLeaveOneRow, NoRowsEnd, RowsAreSeen, RowsGoOn, RowsStayParts, SeenOnce};
 
 /// The rows that a byte leaves of parts in an arena are seen as those that it leaves of what the
 /// parts stand for.
@@ -31,4 +31,14 @@ pub fn rows_go_on()
 /// Where a text leaves no row, no more does.
 pub fn no_rows_end()
     ensures { NoRowsEnd }
+{}
+
+/// Alternatives leave what each of them does, where none stands twice.
+pub fn alternatives_leave_theirs()
+    ensures { AlternativesLeaveTheirs }
+{}
+
+/// Of characters that pass a test a byte leaves one row, or what it leaves of those beyond ASCII.
+pub fn characters_leave()
+    ensures { CharactersLeave }
 {}
