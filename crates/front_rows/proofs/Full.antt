@@ -147,11 +147,11 @@ text_of a (p ∷ ps) h =
 
 all_shown : (a : Arena) (b : ℕ) (rs : List (List Part)) (w : List ℕ) → OneMatches a (all_behind a b rs) w → OneMatches a rs (b ∷ w)
 all_shown a b [] w k = absurd k
-all_shown a b (ps ∷ rs) w k = at (one_of a (behind_parts a b ps) (all_behind a b rs) w k)
+all_shown a b (ps ∷ rs) w k = at (λ r. all_shown a b rs w r) (one_of a (behind_parts a b ps) (all_behind a b rs) w k)
   where
-    at : OneMatches a (behind_parts a b ps) w ⊎ OneMatches a (all_behind a b rs) w → OneMatches a (ps ∷ rs) (b ∷ w)
-    at (inl l) = inl (turn_shown a b ps w l)
-    at (inr r) = inr (all_shown a b rs w r)
+    at : (OneMatches a (all_behind a b rs) w → OneMatches a rs (b ∷ w)) → OneMatches a (behind_parts a b ps) w ⊎ OneMatches a (all_behind a b rs) w → OneMatches a (ps ∷ rs) (b ∷ w)
+    at f (inl l) = inl (turn_shown a b ps w l)
+    at f (inr r) = inr (f r)
 
 all_made : (a : Arena) (b : ℕ) (rs : List (List Part)) (w : List ℕ) → OneMatches a rs (b ∷ w) → OneMatches a (all_behind a b rs) w
 all_made a b [] w k = absurd k
