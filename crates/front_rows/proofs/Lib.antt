@@ -4,3 +4,4 @@ mod Once
 mod Full
 mod Classes
 mod Alternatives
+mod Beyond

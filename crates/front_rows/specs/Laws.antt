@@ -1,5 +1,6 @@
 -- The laws, as statements.
-use Rattle.std.specs.Prelude.{◌≡◌, ◌&&◌, ℕ, Bool, true, nat_lt, if◌then◌else◌, ⊤, List, [], ◌∷◌, ◌++◌, map}
+use Rattle.std.specs.Prelude.{◌≡◌, ◌<◌, ◌&&◌, ℕ, Bool, true, nat_lt, if◌then◌else◌, ⊤, List, [], ◌∷◌, ◌++◌, map}
+use Rattle.std.specs.Char.{encode_utf8}
 use Rattle.xml_text.specs.Characters.{is_character}
 use Rattle.derivatives.specs.Expressions.{Expr}
 use Rattle.derivatives.specs.Derivatives.{is_full, either_of}
@@ -10,7 +11,7 @@ use Rattle.partial_derivatives.specs.declared.part.Member.{Member}
 use Rattle.partial_derivatives.specs.declared.part.Part.{Part}
 use Rattle.partial_derivatives.specs.declared.part.Part.TheVariants.{Whole, Among}
 use Rattle.partial_derivatives.specs.Parts.{part_expr, InTurn, behind_parts}
-use Rattle.front_rows.specs.Seen.{Seen, seen_row, are_apart, rows, rows_in_turn}
+use Rattle.front_rows.specs.Seen.{Seen, seen_row, are_apart, rows, rows_in_turn, rows_over}
 
 -- what a byte leaves of parts of an arena is seen as what it leaves of what they stand for
 abbrev pub RowsAreSeen : Type 0
@@ -80,3 +81,8 @@ AlternativesLeaveTheirs = (b : ℕ) (rest : List Seen) (x y : Expr) → are_apar
 abbrev pub CharactersLeave : Type 0
 CharactersLeave = (test : ℕ → Bool) (b : ℕ) (rest : List Seen)
     → rows b (character_of test) rest ≡ (if nat_lt b 128 && (is_character b && test b) then rest ∷ [] else []) ++ rows b beyond_ascii rest
+
+-- the bytes of a character leave one row of characters that pass a test, which those beyond ASCII all do
+abbrev pub CharactersAreTaken : Type 0
+CharactersAreTaken = (test : ℕ → Bool) (c : ℕ) → is_character c ≡ true → (c < 128 → test c ≡ true) → (b : ℕ) (bytes : List ℕ) → encode_utf8 c ≡ b ∷ bytes
+    → (rest : List Seen) → rows_over bytes (rows b (character_of test) rest) ≡ rest ∷ []

@@ -1,6 +1,6 @@
 //! The laws. Each function does nothing, and stands for the law that its contract states.
 
-ghost use Rattle.front_rows.specs.Laws.{AlternativesLeaveTheirs, CharactersLeave, ClassesLeaveOneRow, NoRowsEnd, RowsAreSeen, RowsGoOn, RowsStayParts, SeenOnce};
+ghost use Rattle.front_rows.specs.Laws.{AlternativesLeaveTheirs, CharactersAreTaken, CharactersLeave, ClassesLeaveOneRow, NoRowsEnd, RowsAreSeen, RowsGoOn, RowsStayParts, SeenOnce};
 
 /// The rows that a byte leaves of parts in an arena are seen as those that it leaves of what the
 /// parts stand for.
@@ -41,4 +41,9 @@ pub fn alternatives_leave_theirs()
 /// Of characters that pass a test a byte leaves one row, or what it leaves of those beyond ASCII.
 pub fn characters_leave()
     ensures { CharactersLeave }
+{}
+
+/// The bytes of a character leave one row of characters that pass a test.
+pub fn characters_are_taken()
+    ensures { CharactersAreTaken }
 {}
