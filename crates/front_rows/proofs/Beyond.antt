@@ -212,7 +212,7 @@ high_first ((r ∷ rs) ∷ ps) b w h (inr k) = high_first ps b w (and_parts (nat
 abbrev Beyond : List (List (ℕ × ℕ))
 Beyond = low_rows ++ (middle_rows ++ high_rows)
 
-beyond_low : (b : ℕ) (rest : List Seen) → b < 128 → rows b beyond_ascii rest ≡ []
+pub beyond_low : (b : ℕ) (rest : List Seen) → b < 128 → rows b beyond_ascii rest ≡ []
 unfolding beyond_ascii
 beyond_low b rest l = low_none Beyond b rest refl refl l
 
@@ -247,3 +247,14 @@ characters_are_taken test c is passes b w e rest = at (cases_lt c 128)
     at (inr l) =
         let k : InRows Beyond (b ∷ w) = subst (λ (z : List ℕ). InRows Beyond z) e (beyond_made c l is) in
         by {t = false} (and_left (nat_lt b 128) (is_character b && test b) (le-ltb b 128 (high_first Beyond b w refl k))) refl (beyond_one b w rest k)
+
+-- a byte of ASCII that begins a character is it
+pub byte_of : (c b : ℕ) (w : List ℕ) (d : ℕ) → is_character c ≡ true → encode_utf8 c ≡ b ∷ w → d < 128 → b ≡ d → c ≡ d
+byte_of c b w d is e small q = at (cases_lt c 128)
+  where
+    at : (c < 128) ⊎ (128 ≤ c) → c ≡ d
+    at (inl l) = sym ((cons_same (sym e ∙ encode_ascii c l)).0) ∙ q
+    at (inr l) =
+        let k : InRows Beyond (b ∷ w) = subst (λ (z : List ℕ). InRows Beyond z) e (beyond_made c l is) in
+        let h = high_first Beyond b w refl k in
+        absurd (omega (arith, h, small, q))

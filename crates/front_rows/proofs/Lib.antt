@@ -5,3 +5,4 @@ mod Full
 mod Classes
 mod Alternatives
 mod Beyond
+mod Comments

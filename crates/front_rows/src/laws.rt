@@ -1,5 +1,6 @@
 //! The laws. Each function does nothing, and stands for the law that its contract states.
 
+ghost use Rattle.front_rows.specs.Comments.{CommentsAreLed};
 ghost use Rattle.front_rows.specs.Laws.{AlternativesLeaveTheirs, CharactersAreTaken, CharactersLeave, ClassesLeaveOneRow, NoRowsEnd, RowsAreSeen, RowsGoOn, RowsStayParts, SeenOnce};
 
 /// The rows that a byte leaves of parts in an arena are seen as those that it leaves of what the
@@ -46,4 +47,9 @@ pub fn characters_leave()
 /// The bytes of a character leave one row of characters that pass a test.
 pub fn characters_are_taken()
     ensures { CharactersAreTaken }
+{}
+
+/// In a comment, a character leaves the rows of how many `-` are the last.
+pub fn comments_are_led()
+    ensures { CommentsAreLed }
 {}

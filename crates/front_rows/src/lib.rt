@@ -8,5 +8,5 @@ mod laws;
 
 pub use laws::{
     alternatives_leave_theirs, characters_are_taken, characters_leave, classes_leave_one_row,
-    no_rows_end, rows_are_seen, rows_are_seen_once, rows_go_on, rows_stay_parts,
+    comments_are_led, no_rows_end, rows_are_seen, rows_are_seen_once, rows_go_on, rows_stay_parts,
 };
